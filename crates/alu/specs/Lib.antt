@@ -1,0 +1,2 @@
+-- The ALU's eleven functions.
+pub mod Alu

@@ -1,0 +1,2 @@
+-- The scope's examples at the edges that are marked as proved.
+pub mod Table

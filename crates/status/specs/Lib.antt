@@ -1,0 +1,3 @@
+-- The program status word and the jump decision that reads it.
+pub mod Psw
+pub mod Jump

@@ -1,0 +1,35 @@
+-- What the register rule keeps: the number of registers, register 0, and in user mode the seven that are the supervisor's.
+use Prim.Native.Nat.{ℕ, _≤_, _<_}
+use native.Mathlib.Omega.{arith}
+use mathlib.Core.Path.{_≡_, refl, sym}
+use mathlib.Core.Bool.{Bool, true, false, not, cond, _&&_}
+use mathlib.Core.List.{List}
+use lib.Dec.{eqb, leb}
+use lib.ListN.{length, getD, set, length-set}
+use lib.Seq.{getD-set-other}
+use borrow.Author.Tests.{eqb-false, ne-eqb, le-leb}
+use Rattle.words.specs.Registers.{update-reg, is-sup-reg}
+
+-- a write stores the value or nothing
+written : (P : List ℕ → Type 0) (sm : Bool) (n : ℕ) (reg : List ℕ) (value : ℕ) → P reg → ((n ≡ 0 → ⊥) → P (set reg n value)) → P (update-reg sm n reg value)
+unfolding update-reg
+written P sm n reg value kept stored = at-zero (eqb n 0) refl
+  where
+    guarded : (t : Bool) → (n ≡ 0 → ⊥) → P (cond t reg (set reg n value))
+    guarded true h = kept
+    guarded false h = stored h
+
+    at-zero : (t : Bool) → eqb n 0 ≡ t → P (cond t reg (cond (is-sup-reg n && not sm) reg (set reg n value)))
+    at-zero true e = kept
+    at-zero false e = guarded (is-sup-reg n && not sm) (eqb-false n 0 e)
+
+pub length-kept : (sm : Bool) (n : ℕ) (reg : List ℕ) (value : ℕ) → length (update-reg sm n reg value) ≡ length reg
+length-kept sm n reg value = written (λ (l : List ℕ). length l ≡ length reg) sm n reg value refl (λ h. length-set reg n value)
+
+pub zero-kept : (sm : Bool) (n : ℕ) (reg : List ℕ) (value : ℕ) → getD (update-reg sm n reg value) 0 0 ≡ getD reg 0 0
+zero-kept sm n reg value =
+    written (λ (l : List ℕ). getD l 0 0 ≡ getD reg 0 0) sm n reg value refl (λ h. getD-set-other reg n 0 value 0 (λ e. h (sym e)))
+
+pub supervisor-kept : (n : ℕ) (reg : List ℕ) (value : ℕ) → 1 ≤ n → n ≤ 7 → update-reg false n reg value ≡ reg
+unfolding update-reg is-sup-reg
+supervisor-kept n reg value h k = simp (ne-eqb n 0 (λ e. omega arith), le-leb 1 n h, le-leb n 7 k)

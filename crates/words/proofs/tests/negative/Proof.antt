@@ -1,0 +1,12 @@
+-- The code is the definition's own expression.
+use mathlib.Core.Path.{refl}
+use Rattle.words.specs.Words.{negp, msb, bit}
+use Rattle.words.proofs.tests.negative.Statement.{statement}
+use Rattle.words.proofs.tests.negative.Tie as tie
+
+returns : tie.Need-returns
+unfolding negp msb bit
+returns c = refl
+
+pub negative-spec : {M : Type 1} → statement M
+negative-spec = tie.close (tie.spec returns)
