@@ -1,5 +1,5 @@
--- The ALU's eleven functions, each with its value and the flags v, n, c, z: the operations of section 5.2.1 (pp. 87 to 88), chosen by
--- code as figure 5.6 (p. 99) and ALU_FUNC (p. 115) do. c is that the true sum reaches 2 ^ 32, any carry in counted. Subtraction adds the
+-- The ALU's eleven functions, each with its value and the flags v, n, c, z: the operations of section 5.2.1 (pp. 87-91), chosen by
+-- code as figure 5.6 (p. 99) and ALU_FUNC (pp. 114-117) do. c is that the true sum reaches 2 ^ 32, any carry in counted. Subtraction adds the
 -- complement and 1, so its c means that nothing was borrowed. v is that the signed result leaves -2 ^ 31 .. 2 ^ 31 - 1.
 -- Assumes nothing.
 use Prim.Native.Nat.{ℕ, _+_, _^_}
@@ -48,17 +48,51 @@ subtracted a b borrow = output (difference a b borrow) (difference-carry a b bor
 unfoldable pub plain : ℕ → AluOutput
 plain value = output value false false
 
--- by the ALU field's code, which table 5.15 (p. 121) lists in this order; a code past the last passes a on, as figure 5.6 has it
+-- the functions of figure 5.6 (p. 99), by its names and in its order
+abbrev pub add-without-carry : ℕ → ℕ → AluOutput
+add-without-carry a b = added a b false
+
+abbrev pub add-with-carry : ℕ → ℕ → Bool → AluOutput
+add-with-carry a b carry = added a b carry
+
+abbrev pub increment : ℕ → AluOutput
+increment a = added a 1 false
+
+abbrev pub sub-without-carry : ℕ → ℕ → AluOutput
+sub-without-carry a b = subtracted a b false
+
+abbrev pub sub-with-carry : ℕ → ℕ → Bool → AluOutput
+sub-with-carry a b carry = subtracted a b carry
+
+abbrev pub decrement : ℕ → AluOutput
+decrement a = subtracted a 1 false
+
+abbrev pub bitwise-and : ℕ → ℕ → AluOutput
+bitwise-and a b = plain (bitAnd a b)
+
+abbrev pub bitwise-xor : ℕ → ℕ → AluOutput
+bitwise-xor a b = plain (bitXor a b)
+
+abbrev pub bitwise-or : ℕ → ℕ → AluOutput
+bitwise-or a b = plain (bitOr a b)
+
+abbrev pub bitwise-not : ℕ → AluOutput
+bitwise-not a = plain (bnot a)
+
+abbrev pub alu-noop : ℕ → AluOutput
+alu-noop a = plain a
+
+-- by the ALU field's code: the mnemonics of table 5.15 (p. 121) in its order, and no operation for every code past them
 unfoldable pub alu : ℕ → ℕ → ℕ → Bool → AluOutput
 alu code a b carry =
-    cond (eqb code 0) (added a b false)
-    (cond (eqb code 1) (added a b carry)
-    (cond (eqb code 2) (added a 1 false)
-    (cond (eqb code 3) (subtracted a b false)
-    (cond (eqb code 4) (subtracted a b carry)
-    (cond (eqb code 5) (subtracted a 1 false)
-    (cond (eqb code 6) (plain (bitAnd a b))
-    (cond (eqb code 7) (plain (bitXor a b))
-    (cond (eqb code 8) (plain (bitOr a b))
-    (cond (eqb code 9) (plain (bnot a))
-    (plain a))))))))))
+    cond (eqb code 0) (add-without-carry a b)
+    (cond (eqb code 1) (add-with-carry a b carry)
+    (cond (eqb code 2) (increment a)
+    (cond (eqb code 3) (sub-without-carry a b)
+    (cond (eqb code 4) (sub-with-carry a b carry)
+    (cond (eqb code 5) (decrement a)
+    (cond (eqb code 6) (bitwise-and a b)
+    (cond (eqb code 7) (bitwise-xor a b)
+    (cond (eqb code 8) (bitwise-or a b)
+    (cond (eqb code 9) (bitwise-not a)
+    (alu-noop a))))))))))

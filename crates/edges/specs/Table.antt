@@ -6,7 +6,7 @@ use mathlib.Core.List.{List, [], _∷_}
 use lib.ListN.{set}
 use mir.Val.{boolByte as num}
 use Rattle.alu.specs.declared.AluOutput.{AluOutput}
-use Rattle.alu.specs.Alu.{added, subtracted}
+use Rattle.alu.specs.Alu.{add-without-carry, sub-without-carry}
 use Rattle.status.specs.declared.psw.Psw.{Psw}
 use Rattle.status.specs.declared.psw.PswLines.{PswLines}
 use Rattle.status.specs.Psw.{mk-psw, next-psw}
@@ -85,9 +85,9 @@ rows =
     -- a whole-word PSW write in user mode with the clock line low changes nothing
     ∷ word-in-user-mode 0b110000 0b001111
     -- FFFFFFFF + 1 = 0, c z set, n v clear
-    ∷ alu (added 0xffff_ffff 1 false) 0 false false true true
+    ∷ alu (add-without-carry 0xffff_ffff 1) 0 false false true true
     -- 7FFFFFFF + 1 = 80000000, n v set, c z clear
-    ∷ alu (added 0x7fff_ffff 1 false) 0x8000_0000 true true false false
+    ∷ alu (add-without-carry 0x7fff_ffff 1) 0x8000_0000 true true false false
     -- 0 - 1 = FFFFFFFF, n set, c v z clear
-    ∷ alu (subtracted 0 1 false) 0xffff_ffff false true false false
+    ∷ alu (sub-without-carry 0 1) 0xffff_ffff false true false false
     ∷ []

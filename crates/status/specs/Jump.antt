@@ -1,4 +1,4 @@
--- The jump decision: JUMP_COND (section 5.2.2, pp. 96 to 97; table 5.8, p. 78), by the number of the destination field.
+-- The jump decision: JUMP_COND (section 5.2.2, pp. 91-99; table 5.8, p. 78), by the number of the destination field.
 -- Table 5.4 (p. 68) calls code 13 greater or equal; the definition makes it less or equal, and decides. Assumes nothing.
 use Prim.Native.Nat.{ℕ}
 use mathlib.Core.Bool.{Bool, true, not, xor, cond, _||_}

@@ -1,5 +1,5 @@
 -- The program status word: six bits (table 5.2, p. 65), their number, and the rule by which they change (PSW_SPEC, section 5.2.2,
--- pp. 95 to 96). A number's other bits are dropped. Assumes nothing.
+-- pp. 91-99). A number's other bits are dropped. Assumes nothing.
 use Prim.Native.Nat.{ℕ, _+_, _*_, _^_}
 use mathlib.Core.Bool.{Bool, true, false, cond, _&&_}
 use mir.Val.{boolByte as num}
@@ -8,11 +8,11 @@ use Rattle.status.specs.declared.psw.Change.{Change}
 use Rattle.status.specs.declared.psw.PswLines.{PswLines}
 use Rattle.words.specs.Words.{bit}
 
--- `mk_psw` (p. 90): the six bits as a word
+-- `mk_psw` (section 5.2.1, pp. 87-91): the six bits as a word
 unfoldable pub mk-psw : Psw → ℕ
 mk-psw p = num (p .sm) * 2 ^ 5 + num (p .ie) * 2 ^ 4 + num (p .v) * 2 ^ 3 + num (p .n) * 2 ^ 2 + num (p .c) * 2 + num (p .z)
 
--- the six selectors `get_sm`, `get_ie`, `get_vf`, `get_nf`, `get_cf`, `get_zf` (p. 90)
+-- the six selectors `get_sm`, `get_ie`, `get_vf`, `get_nf`, `get_cf`, `get_zf` (section 5.2.1)
 unfoldable pub get-psw : ℕ → Psw
 get-psw w = record { sm = bit w 5; ie = bit w 4; v = bit w 3; n = bit w 2; c = bit w 1; z = bit w 0 }
 

@@ -1,4 +1,4 @@
--- The fields of an instruction word (section 5.1.1.3 and figure 5.1, pp. 65 to 66; the subranging functions, p. 89). Assumes nothing.
+-- The fields of an instruction word (section 5.1.1.3 and figure 5.1, pp. 65-66; the subranging functions of section 5.2.1, pp. 87-91). Assumes nothing.
 use Prim.Native.Nat.{ℕ}
 use Rattle.words.specs.declared.instruction.Instruction.{Instruction}
 use Rattle.words.specs.Words.{field}
@@ -16,7 +16,7 @@ srca w = field w 16 5
 unfoldable pub srcb : ℕ → ℕ
 srcb w = field w 11 5
 
--- a number from 0 to 2 ^ 16 - 1 (p. 66): the bits above it are 0
+-- a number from 0 to 2 ^ 16 - 1 (pp. 65-66): the bits above it are 0
 unfoldable pub imm : ℕ → ℕ
 imm w = field w 0 16
 

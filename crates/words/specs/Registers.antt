@@ -1,11 +1,11 @@
--- The register rule: UPDATE_REG (section 5.2.2, pp. 92 to 93) over a list of registers. Assumes nothing.
+-- The register rule: UPDATE_REG (section 5.2.2, pp. 91-99) over a list of registers. Assumes nothing.
 use Prim.Native.Nat.{ℕ}
 use mathlib.Core.Bool.{Bool, cond, not, _&&_}
 use mathlib.Core.List.{List}
 use lib.Dec.{eqb, leb}
 use lib.ListN.{set}
 
--- `IS_SUP_REG`: the seven registers that only the supervisor writes (p. 65)
+-- `IS_SUP_REG`: the seven registers that only the supervisor writes (pp. 63-65)
 unfoldable pub is-sup-reg : ℕ → Bool
 is-sup-reg n = leb 1 n && leb n 7
 

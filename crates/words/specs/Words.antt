@@ -1,5 +1,5 @@
--- Words of 32 bits, as numbers below 2 ^ 32, and the operations of section 5.2.1 (pp. 87 to 91) that every other file stands on.
--- The source leaves them abstract; the scope gives their meaning on 32 bits. Bits are counted from 0, the lowest.
+-- Words of 32 bits, as numbers below 2 ^ 32, and the operations of section 5.2.1 (pp. 87-91) that every other file stands on, by the
+-- source's names. The source leaves them abstract; the scope gives their meaning on 32 bits. Bits are counted from 0, the lowest.
 -- Assumes nothing.
 use Prim.Native.Nat.{ℕ, _-_, _/_, _%_, _^_}
 use mathlib.Core.Bool.{Bool, cond, _||_}
@@ -7,7 +7,7 @@ use lib.Dec.{eqb}
 use lib.IntN.{ℤ, pos, negℤ, _-ℤ_}
 use lib.Signed.{ltZ}
 
--- `wordn`: the word that a number stands for, its low 32 bits (p. 89)
+-- `wordn`: the word that a number stands for, its low 32 bits
 unfoldable pub wordn : ℕ → ℕ
 wordn n = n % 2 ^ 32
 
@@ -19,7 +19,7 @@ field w low size = w / 2 ^ low % 2 ^ size
 unfoldable pub bit : ℕ → ℕ → Bool
 bit w place = eqb (w / 2 ^ place % 2) 1
 
--- `msb` and `lsb`: the most and the least significant bit (p. 88)
+-- `msb` and `lsb`: the most and the least significant bit
 unfoldable pub msb : ℕ → Bool
 unfolding bit
 msb w = bit w 31
@@ -28,7 +28,7 @@ unfoldable pub lsb : ℕ → Bool
 unfolding bit
 lsb w = bit w 0
 
--- `negp` and `zerop`, the two test functions (p. 88): n is bit 31, z means all zero
+-- `negp` and `zerop`, the two test functions: n is bit 31, z means all zero
 unfoldable pub negp : ℕ → Bool
 unfolding msb
 negp w = msb w
@@ -36,7 +36,7 @@ negp w = msb w
 unfoldable pub zerop : ℕ → Bool
 zerop w = eqb w 0
 
--- `bnot`: the complement, every bit turned (p. 88)
+-- `bnot`: the complement, every bit turned
 unfoldable pub bnot : ℕ → ℕ
 bnot w = 2 ^ 32 - 1 - w
 

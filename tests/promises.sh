@@ -1,0 +1,37 @@
+# docs/PROMISES.md can't go stale: each `crate/path#name` and each .edit in it exists, and every public function and every must-fail edit
+# of the crates is in it, each function with at least two edits on its row.
+page=docs/PROMISES.md
+passed=0 failed=0
+
+fail() {
+    echo "promises: $1"
+    failed=$((failed + 1))
+}
+
+cited=$(grep -oE '`[a-z_]+/(specs|src|proofs|must-fail)/[A-Za-z0-9_/]+\.[a-z]+(#[A-Za-z0-9_-]+)?`' "$page" | tr -d '`' | sort -u)
+
+for cite in $cited; do
+    file=crates/${cite%%#*} name=${cite#*#}
+    if [ ! -f "$file" ]; then
+        fail "$cite: there is no $file"
+    elif [ "$name" != "$cite" ] && ! grep -qE "(^|[[:space:]])(fn )?$name( :| \{|\()" "$file"; then
+        fail "$cite: $file declares no $name"
+    else
+        passed=$((passed + 1))
+    fi
+done
+
+for edit in crates/*/must-fail/*.edit; do
+    if grep -qxF "${edit#crates/}" <<<"$cited"; then passed=$((passed + 1)); else fail "$edit is not on the page"; fi
+done
+
+# a public function of a library: its row starts with its name and has two edits or more
+while IFS=: read -r file _ line; do
+    name=$(sed -E 's/.*fn ([a-z_0-9]+).*/\1/' <<<"$line")
+    row=$(grep -F "| \`${file#crates/}#$name\` |" "$page")
+    edits=$(grep -o '\.edit`' <<<"$row" | wc -l)
+    if [ "$edits" -ge 2 ]; then passed=$((passed + 1)); else fail "$file: $name has $edits edits on the page"; fi
+done < <(grep -rnE '^[[:space:]]*pub (extern "C" )?fn ' crates/*/src)
+
+echo "$passed passed, $failed failed"
+[ "$failed" -eq 0 ]
