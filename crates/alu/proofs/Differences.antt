@@ -1,12 +1,12 @@
 -- An integer as the difference of two naturals: sums, negation and order of such differences are sums and order of naturals, which
 -- `omega` reads. What is said of signed words is carried over to the naturals by these laws.
 use Prim.Native.Nat.{ℕ, zero, suc, _+_, _-_, _≤_, _<_}
-use native.Mathlib.Nat.{add-zero, sub-zero}
+use native.Mathlib.Nat.{add-zero, sub-zero, lt-irrefl}
 use native.Mathlib.Omega.{arith}
-use mathlib.Core.Path.{_≡_, refl, sym, ap, ap₂, _∙_}
+use mathlib.Core.Path.{_≡_, refl, sym, ap, _∙_}
 use mathlib.Core.Logic.{_⊎_, inl, inr}
 use lib.Dec.{ltb, leb·suc-zero}
-use lib.IntN.{ℤ, pos, negℤ, subℕ, _+ℤ_, _-ℤ_, +ℤ-assoc, +ℤ-comm, negℤ-+ℤ, negℤ-negℤ, pos-+ℤ-pos}
+use lib.IntN.{ℤ, pos, negsuc, negℤ, subℕ, _+ℤ_, _-ℤ_, +ℤ-assoc, +ℤ-comm, negℤ-+ℤ, negℤ-negℤ}
 use lib.Signed.{ltZ}
 use borrow.Author.Tests.{lt-ltb, le-ltb}
 use Rattle.words.proofs.Cases.{lt-or-le, same-test}
@@ -37,3 +37,13 @@ less a b c d = rw (← subℕ-is a b, ← subℕ-is c d) (split (lt-or-le a b) (
     split (inl p) (inr q) = simp (lt-ltb a b p, le-ltb c d q) (sym (lt-ltb (a + d) (c + b) (omega arith)))
     split (inr p) (inl q) = simp (le-ltb a b p, lt-ltb c d q) (sym (le-ltb (a + d) (c + b) (omega arith)))
     split (inr p) (inr q) = simp (le-ltb a b p, le-ltb c d q) (same-test (a - b) (c - d) (a + d) (c + b) (λ h. omega arith) (λ h. omega arith))
+
+-- two differences are one where the crosswise sums are
+pub same : (a b c d : ℕ) → a + d ≡ c + b → pos a -ℤ pos b ≡ pos c -ℤ pos d
+same a b c d e = sym (subℕ-is a b) ∙ split (lt-or-le a b) (lt-or-le c d) ∙ subℕ-is c d
+  where
+    split : (a < b) ⊎ (b ≤ a) → (c < d) ⊎ (d ≤ c) → subℕ a b ≡ subℕ c d
+    split (inl p) (inl q) = simp (lt-ltb a b p, lt-ltb c d q) (ap negsuc (omega arith))
+    split (inl p) (inr q) = absurd (lt-irrefl a (omega arith))
+    split (inr p) (inl q) = absurd (lt-irrefl a (omega arith))
+    split (inr p) (inr q) = simp (le-ltb a b p, le-ltb c d q) (ap pos (omega arith))

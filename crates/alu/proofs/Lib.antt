@@ -3,4 +3,5 @@ pub mod Sums
 pub mod Differences
 pub mod SignedWords
 pub mod OverflowBySigns
+pub mod TrueResults
 pub mod Outputs

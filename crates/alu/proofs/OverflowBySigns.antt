@@ -1,10 +1,10 @@
 -- Overflow is seen from three signs: a sum overflows where its operands have one sign and the value the other, a difference where its
 -- operands have two signs and the value not the first one's. Each of the eight cases is linear arithmetic.
-use Prim.Native.Nat.{ℕ, _+_, _-_, _%_, _^_, _≤_, _<_}
+use Prim.Native.Nat.{ℕ, _+_, _%_, _^_, _≤_, _<_}
 use native.Mathlib.Omega.{arith}
 use mathlib.Core.Path.{_≡_, refl, sym}
-use mathlib.Core.Bool.{Bool, true, false, not, xor, cond, _&&_}
-use mathlib.Core.Logic.{_⊎_, inl, inr}
+use mathlib.Core.Bool.{Bool, not, xor, _&&_}
+use mathlib.Core.Logic.{inl, inr}
 use mir.Val.{boolByte as num}
 use Rattle.words.specs.Words.{wordn, negp}
 use Rattle.words.proofs.FlagNumbers.{num-le}

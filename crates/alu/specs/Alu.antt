@@ -1,9 +1,9 @@
 -- The ALU's eleven functions, each with its value and the flags v, n, c, z: the operations of section 5.2.1 (pp. 87-91), chosen by
 -- code as figure 5.6 (p. 99) and ALU_FUNC (pp. 114-117) do. c is that the true sum reaches 2 ^ 32, any carry in counted. Subtraction adds the
 -- complement and 1, so its c means that nothing was borrowed. v is that the signed result leaves -2 ^ 31 .. 2 ^ 31 - 1.
--- Assumes nothing.
+-- `num` is the library's number of a truth value, 0 or 1. Assumes nothing.
 use Prim.Native.Nat.{ℕ, _+_, _^_}
-use mathlib.Core.Bool.{Bool, true, false, not, cond}
+use mathlib.Core.Bool.{Bool, false, not, cond}
 use lib.Dec.{eqb, leb}
 use lib.Bits.{bitAnd, bitOr, bitXor}
 use lib.IntN.{pos, _+ℤ_, _-ℤ_}
@@ -23,11 +23,9 @@ sum-overflow a b carry = outside (signed a +ℤ signed b +ℤ pos (num carry))
 
 -- a - b - borrow: the complement of b, and 1 unless there is a borrow in
 unfoldable pub difference : ℕ → ℕ → Bool → ℕ
-unfolding sum
 difference a b borrow = sum a (bnot b) (not borrow)
 
 unfoldable pub difference-carry : ℕ → ℕ → Bool → Bool
-unfolding sum-carry
 difference-carry a b borrow = sum-carry a (bnot b) (not borrow)
 
 unfoldable pub difference-overflow : ℕ → ℕ → Bool → Bool

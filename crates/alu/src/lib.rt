@@ -3,8 +3,8 @@ ghost use mathlib.Core.Path.{_≡_};
 ghost use Rattle.alu.specs.Alu.{added, subtracted, plain, alu};
 use std::num::wrapping_add_u32;
 use std::num::wrapping_sub_u32;
-use words::tests::negative;
-use words::tests::zero;
+use words::predicates::negative;
+use words::predicates::zero;
 
 // The four status bits: overflow, negative, carry, zero.
 pub struct Flags {

@@ -1,11 +1,11 @@
 -- What the jump codes mean to a programmer after a - b (table 5.4, p. 68): for words a and b, and a PSW whose four flags are those of
 -- the subtraction, each of the codes 6 to 13 jumps exactly on the relation of a to b that it is named for. Codes 8 and 9 compare the
 -- words as they are, 10 to 13 as signed numbers. Table 5.4's wording of code 13 is off: it is less or equal.
-use Prim.Native.Nat.{ℕ, _+_, _-_, _%_, _^_, _≤_, _<_}
+use Prim.Native.Nat.{ℕ, _+_, _%_, _^_, _≤_, _<_}
 use native.Mathlib.Nat.{add-zero}
 use native.Mathlib.Omega.{arith}
-use mathlib.Core.Path.{_≡_, refl, sym, ap, ap₂, _∙_}
-use mathlib.Core.Bool.{Bool, true, false, not, xor, Bool·not-not, _&&_, _||_}
+use mathlib.Core.Path.{_≡_, refl, sym, ap, _∙_}
+use mathlib.Core.Bool.{false, not, xor, Bool·not-not, _&&_, _||_}
 use mathlib.Core.Logic.{_⊎_, inl, inr}
 use lib.Dec.{ltb, leb, eqb}
 use lib.IntN.{ℤ, pos, negsuc}

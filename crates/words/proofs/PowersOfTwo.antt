@@ -1,9 +1,9 @@
 -- A count of ones that is 1 means a power of two, so the legal lengths are the eleven powers from 16 to 16,384.
-use Prim.Native.Nat.{ℕ, zero, suc, _+_, _*_, _/_, _%_, _^_, _≤_, _<_}
+use Prim.Native.Nat.{ℕ, zero, suc, _*_, _/_, _%_, _^_, _≤_, _<_}
 use native.Mathlib.Nat.{add-zero, one-mul, pow-suc, le-refl, lt-irrefl, lt-of-le-of-lt}
 use native.Mathlib.Omega.{arith}
-use mathlib.Core.Path.{_≡_, refl, sym, ap, _∙_}
-use mathlib.Core.Bool.{Bool, true, _&&_, and-eq-true-iff}
+use mathlib.Core.Path.{_≡_, sym, ap, _∙_}
+use mathlib.Core.Bool.{true, _&&_, and-eq-true-iff}
 use lib.Dec.{eqb, leb}
 use mathlib.Core.Logic.{_⊎_, inl, inr, _↔_}
 use lib.Count.{ones, onesIn, ones-step, ones-cat, ones-le}

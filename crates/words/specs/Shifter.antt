@@ -1,7 +1,7 @@
 -- The shifter's four functions by code (SHIFTER_SPEC, section 5.2.2, pp. 99-102; table 5.14, p. 120), each with the bit shifted out.
 -- Assumes nothing.
 use Prim.Native.Nat.{ℕ, _+_, _*_, _/_, _^_}
-use mathlib.Core.Bool.{Bool, false, cond}
+use mathlib.Core.Bool.{false, cond}
 use lib.Dec.{eqb}
 use mir.Val.{boolByte as num}
 use Rattle.words.specs.declared.shifter.ShifterOutput.{ShifterOutput}

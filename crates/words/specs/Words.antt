@@ -21,16 +21,13 @@ bit w place = eqb (w / 2 ^ place % 2) 1
 
 -- `msb` and `lsb`: the most and the least significant bit
 unfoldable pub msb : ℕ → Bool
-unfolding bit
 msb w = bit w 31
 
 unfoldable pub lsb : ℕ → Bool
-unfolding bit
 lsb w = bit w 0
 
 -- `negp` and `zerop`, the two test functions: n is bit 31, z means all zero
 unfoldable pub negp : ℕ → Bool
-unfolding msb
 negp w = msb w
 
 unfoldable pub zerop : ℕ → Bool
@@ -42,7 +39,6 @@ bnot w = 2 ^ 32 - 1 - w
 
 -- a word read as a signed number: bit 31 counts as -2 ^ 31
 unfoldable pub signed : ℕ → ℤ
-unfolding negp
 signed w = cond (negp w) (pos w -ℤ pos (2 ^ 32)) (pos w)
 
 -- an integer is outside -2 ^ 31 .. 2 ^ 31 - 1, what a signed word can be

@@ -1,7 +1,7 @@
 // The shifter: left, right, arithmetic right, or nothing, with the bit shifted out.
 ghost use mathlib.Core.Path.{_≡_};
 ghost use Rattle.words.specs.Shifter.{shifter};
-use crate::tests::negative;
+use crate::predicates::negative;
 
 pub struct ShifterOutput {
     pub value: u32,

@@ -1,5 +1,4 @@
 -- One arm a code; a field past the last code is none of the fourteen.
-use mathlib.Core.Path.{refl}
 use mathlib.Core.Bool.{xor}
 use borrow.Author.Tests.{ne-eqb}
 use Rattle.status.specs.Jump.{jump-cond}

@@ -5,7 +5,7 @@ use native.Mathlib.Omega.{arith}
 use native.Mathlib.Nat.{div-one}
 use mathlib.Core.Path.{_≡_}
 use Prim.Native.Nat.{ℕ, _*_, _%_, _^_}
-use Rattle.words.specs.Words.{wordn, msb, lsb, bit, negp}
+use Rattle.words.specs.Words.{wordn, lsb, bit, negp}
 use Rattle.words.specs.Shifter.{shifter, shl, shr, asr}
 use Rattle.words.proofs.FlagNumbers.{num-le}
 use Rattle.words.proofs.shifter.shift.Statement.{statement}

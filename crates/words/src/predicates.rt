@@ -1,4 +1,4 @@
-// The two test functions of a word (section 5.2.1, pp. 87-91).
+// The two test functions of a word, its predicates (section 5.2.1, pp. 87-91).
 ghost use mathlib.Core.Path.{_≡_};
 ghost use Rattle.words.specs.Words.{negp, zerop};
 

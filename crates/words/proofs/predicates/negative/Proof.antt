@@ -1,8 +1,8 @@
 -- The code is the definition's own expression.
 use mathlib.Core.Path.{refl}
 use Rattle.words.specs.Words.{negp, msb, bit}
-use Rattle.words.proofs.tests.negative.Statement.{statement}
-use Rattle.words.proofs.tests.negative.Tie as tie
+use Rattle.words.proofs.predicates.negative.Statement.{statement}
+use Rattle.words.proofs.predicates.negative.Tie as tie
 
 returns : tie.Need-returns
 unfolding negp msb bit

@@ -1,8 +1,8 @@
 -- The code is the definition's own expression.
 use mathlib.Core.Path.{refl}
 use Rattle.words.specs.Words.{zerop}
-use Rattle.words.proofs.tests.zero.Statement.{statement}
-use Rattle.words.proofs.tests.zero.Tie as tie
+use Rattle.words.proofs.predicates.zero.Statement.{statement}
+use Rattle.words.proofs.predicates.zero.Tie as tie
 
 returns : tie.Need-returns
 unfolding zerop
