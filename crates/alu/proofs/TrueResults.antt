@@ -17,23 +17,22 @@ use Rattle.alu.proofs.SignedWords.{under, out, under-whole, Place, high
 
 -- ---- the words as they are
 
-module _ (a b : ℕ) (carry : Bool) (ha : a < 2 ^ 32) (hb : b < 2 ^ 32) where
-  pub sum-without-carry : sum-carry a b carry ≡ false → sum a b carry ≡ a + b + num carry
-  unfolding sum sum-carry wordn
-  sum-without-carry e = omega (arith, leb-false (2 ^ 32) (a + b + num carry) e)
+pub sum-without-carry : (a b : ℕ) (carry : Bool) → sum-carry a b carry ≡ false → sum a b carry ≡ a + b + num carry
+unfolding sum sum-carry wordn
+sum-without-carry a b carry e = omega (arith, leb-false (2 ^ 32) (a + b + num carry) e)
 
-  pub sum-with-carry : sum-carry a b carry ≡ true → sum a b carry + 2 ^ 32 ≡ a + b + num carry
-  unfolding sum sum-carry wordn
-  sum-with-carry e = omega (arith, leb-true (2 ^ 32) (a + b + num carry) e, num-le carry)
+pub sum-with-carry : (a b : ℕ) (carry : Bool) → a < 2 ^ 32 → b < 2 ^ 32 → sum-carry a b carry ≡ true → sum a b carry + 2 ^ 32 ≡ a + b + num carry
+unfolding sum sum-carry wordn
+sum-with-carry a b carry ha hb e = omega (arith, leb-true (2 ^ 32) (a + b + num carry) e, num-le carry)
 
-  pub difference-without-borrow : difference-carry a b carry ≡ true → difference a b carry + b + num carry ≡ a
-  difference-without-borrow e =
-      omega (
-        arith,
-        leb-true (b + num carry) a (sym (nothing-borrowed a b carry ha hb) ∙ e),
-        added-back a b carry ha hb,
-        difference-lt a b carry,
-      )
+pub difference-without-borrow : (a b : ℕ) (borrow : Bool) → a < 2 ^ 32 → b < 2 ^ 32 → difference-carry a b borrow ≡ true → difference a b borrow + b + num borrow ≡ a
+difference-without-borrow a b borrow ha hb e =
+    omega (
+      arith,
+      leb-true (b + num borrow) a (sym (nothing-borrowed a b borrow ha hb) ∙ e),
+      added-back a b borrow ha hb,
+      difference-lt a b borrow,
+    )
 
 -- ---- the words as signed numbers
 
@@ -46,16 +45,15 @@ within r p q (low e h) hr same i = omega arith
 true-result : (r p q : ℕ) → r < 2 ^ 32 → (r + q) % 2 ^ 32 ≡ p % 2 ^ 32 → out p q ≡ false → signed r ≡ pos p -ℤ pos q
 true-result r p q hr same clear = signed-is r ∙ Differences.same r (under r) p q (within r p q (place r hr) hr same (not-out p q clear))
 
-module _ (a b : ℕ) (carry : Bool) (ha : a < 2 ^ 32) (hb : b < 2 ^ 32) where
-  pub sum-without-overflow : sum-overflow a b carry ≡ false → signed (sum a b carry) ≡ signed a +ℤ signed b +ℤ pos (num carry)
-  unfolding sum wordn
-  sum-without-overflow e =
-      true-result (sum a b carry) (a + b + num carry) (under a + under b) (sum-lt a b carry)
-      (omega (arith, under-whole a, under-whole b)) (sym (sum-overflow-is a b carry) ∙ e)
-      ∙ sym (signed-sum-is a b carry)
+pub sum-without-overflow : (a b : ℕ) (carry : Bool) → sum-overflow a b carry ≡ false → signed (sum a b carry) ≡ signed a +ℤ signed b +ℤ pos (num carry)
+unfolding sum wordn
+sum-without-overflow a b carry e =
+    true-result (sum a b carry) (a + b + num carry) (under a + under b) (sum-lt a b carry)
+    (omega (arith, under-whole a, under-whole b)) (sym (sum-overflow-is a b carry) ∙ e)
+    ∙ sym (signed-sum-is a b carry)
 
-  pub difference-without-overflow : difference-overflow a b carry ≡ false → signed (difference a b carry) ≡ signed a -ℤ signed b -ℤ pos (num carry)
-  difference-without-overflow e =
-      true-result (difference a b carry) (a + under b) (under a + b + num carry) (difference-lt a b carry)
-      (omega (arith, under-whole a, under-whole b, added-back a b carry ha hb)) (sym (difference-overflow-is a b carry) ∙ e)
-      ∙ sym (signed-difference-is a b carry)
+pub difference-without-overflow : (a b : ℕ) (borrow : Bool) → a < 2 ^ 32 → b < 2 ^ 32 → difference-overflow a b borrow ≡ false → signed (difference a b borrow) ≡ signed a -ℤ signed b -ℤ pos (num borrow)
+difference-without-overflow a b borrow ha hb e =
+    true-result (difference a b borrow) (a + under b) (under a + b + num borrow) (difference-lt a b borrow)
+    (omega (arith, under-whole a, under-whole b, added-back a b borrow ha hb)) (sym (difference-overflow-is a b borrow) ∙ e)
+    ∙ sym (signed-difference-is a b borrow)

@@ -14,12 +14,12 @@ use borrow.Author.Tests.{lt-ltb, le-ltb, le-leb, lt-leb, eq-eqb, ne-eqb}
 use Rattle.status.specs.declared.psw.Psw.{Psw}
 use Rattle.alu.specs.declared.Flags.{Flags}
 use Rattle.words.specs.Words.{negp, zerop, signed}
-use Rattle.alu.specs.Alu.{subtracted, difference, difference-carry, difference-overflow}
+use Rattle.alu.specs.Alu.{subtracted, sub-without-carry, difference, difference-carry, difference-overflow}
 use Rattle.status.specs.Jump.{jump-cond}
 use Rattle.words.proofs.Cases.{lt-or-le}
 use Rattle.alu.proofs.Sums.{difference-lt, added-back, nothing-borrowed}
 use Rattle.alu.proofs.Differences as Differences
-use Rattle.alu.proofs.SignedWords.{Sign, under, sign, signed-is}
+use Rattle.alu.proofs.SignedWords.{Sign, under, sign, Place, high, low, place, signed-is}
 use Rattle.alu.proofs.OverflowBySigns.{difference-by-signs}
 
 -- a PSW with new flags
@@ -29,7 +29,7 @@ with-flags p f = record { sm = p .sm; ie = p .ie; v = f .v; n = f .n; c = f .c; 
 -- the PSW after a - b
 abbrev pub compared : Psw → ℕ → ℕ → Psw
 unfolding subtracted
-compared p a b = with-flags p (subtracted a b false .flags)
+compared p a b = with-flags p (sub-without-carry a b .flags)
 
 -- ---- the words as they are
 
@@ -90,11 +90,11 @@ signed-less-is a b ha hb =
     (sign-of-difference a b r ha hb hr (omega (arith, added-back a b false ha hb)) (sign a ha) (sign b hb) (sign r hr))
 
 -- the two places on the number line are one only where the words are
-same-place : (a b : ℕ) → a < 2 ^ 32 → b < 2 ^ 32 → Sign a → Sign b → a + under b ≡ b + under a → a ≡ b
-same-place a b ha hb (inl x) (inl y) e = let f = rw (x .0, y .0) at e in omega arith
-same-place a b ha hb (inl x) (inr y) e = let f = rw (x .0, y .0) at e in omega arith
-same-place a b ha hb (inr x) (inl y) e = let f = rw (x .0, y .0) at e in omega arith
-same-place a b ha hb (inr x) (inr y) e = let f = rw (x .0, y .0) at e in omega arith
+same-place : (a b : ℕ) → a < 2 ^ 32 → b < 2 ^ 32 → Place a → Place b → a + under b ≡ b + under a → a ≡ b
+same-place a b ha hb (high ea xa) (high eb xb) e = omega arith
+same-place a b ha hb (high ea xa) (low eb xb) e = omega arith
+same-place a b ha hb (low ea xa) (high eb xb) e = omega arith
+same-place a b ha hb (low ea xa) (low eb xb) e = omega arith
 
 -- neither below nor equal: above
 signed-greater-is : (a b : ℕ) → a < 2 ^ 32 → b < 2 ^ 32 → not (ltZ (signed a) (signed b) || eqb a b) ≡ ltZ (signed b) (signed a)
@@ -109,7 +109,7 @@ signed-greater-is a b ha hb = rw (less-is a b, less-is b a) (by-order (lt-or-le 
     by-order : (left < right) ⊎ (right ≤ left) → (right < left) ⊎ (left ≤ right) → not (ltb left right || eqb a b) ≡ ltb right left
     by-order (inl h) k = simp (lt-ltb left right h, le-ltb right left (omega arith))
     by-order (inr h) (inl k) = simp (le-ltb left right h, lt-ltb right left k, ne-eqb a b (λ e. omega (arith, ap under e)))
-    by-order (inr h) (inr k) = simp (le-ltb left right h, le-ltb right left k, eq-eqb a b (same-place a b ha hb (sign a ha) (sign b hb) (omega arith)))
+    by-order (inr h) (inr k) = simp (le-ltb left right h, le-ltb right left k, eq-eqb a b (same-place a b ha hb (place a ha) (place b hb) (omega arith)))
 
 not-ltZ : (x y : ℤ) → not (ltZ x y) ≡ leZ y x
 not-ltZ (pos a) (pos b) = ap not (sym (not-leb b a)) ∙ Bool·not-not (leb b a)
