@@ -91,9 +91,10 @@ fn clocked(lines: PswLines, psw: Psw) -> Psw
 pub fn next(lines: PswLines, word: u32, psw: Psw) -> Psw
     ensures { λ r. ⌜ r ≡ next-psw lines word psw ⌝ }
 {
-    let whole = lines.set & psw.sm;
+    let set = lines.set;
+    let sm = psw.sm;
     let clock = lines.clock;
-    if whole {
+    if set & sm {
         return from_word(word);
     }
     if clock {

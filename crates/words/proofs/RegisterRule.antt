@@ -1,4 +1,5 @@
--- What the register rule keeps: the number of registers, register 0, and in user mode the seven that are the supervisor's.
+-- The register rule's three cases, and what it keeps: the number of registers, register 0, and in user mode the seven that are the
+-- supervisor's.
 use Prim.Native.Nat.{ℕ, _≤_}
 use native.Mathlib.Omega.{arith}
 use mathlib.Core.Path.{_≡_, refl, sym}
@@ -7,8 +8,25 @@ use mathlib.Core.List.{List}
 use lib.Dec.{eqb}
 use lib.ListN.{length, getD, set, length-set}
 use lib.Seq.{getD-set-other}
-use borrow.Author.Tests.{eqb-false, ne-eqb, le-leb}
+use borrow.Author.Tests.{eqb-false, eq-eqb, ne-eqb, le-leb}
 use Rattle.words.specs.Registers.{update-reg, is-sup-reg}
+
+-- ---- its three cases
+
+module _ (sm : Bool) (n : ℕ) (reg : List ℕ) (value : ℕ) where
+  pub zero-register : n ≡ 0 → update-reg sm n reg value ≡ reg
+  unfolding update-reg
+  zero-register e = simp (eq-eqb n 0 e)
+
+  pub guarded : (n ≡ 0 → ⊥) → (is-sup-reg n && not sm) ≡ true → update-reg sm n reg value ≡ reg
+  unfolding update-reg
+  guarded h e = simp (ne-eqb n 0 h, e)
+
+  pub stored : (n ≡ 0 → ⊥) → (is-sup-reg n && not sm) ≡ false → update-reg sm n reg value ≡ set reg n value
+  unfolding update-reg
+  stored h e = simp (ne-eqb n 0 h, e)
+
+-- ---- what it keeps
 
 -- a write stores the value or nothing
 written : (P : List ℕ → Type 0) (sm : Bool) (n : ℕ) (reg : List ℕ) (value : ℕ) → P reg → ((n ≡ 0 → ⊥) → P (set reg n value)) → P (update-reg sm n reg value)

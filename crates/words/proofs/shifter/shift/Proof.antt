@@ -23,7 +23,7 @@ add-t13 c = omega (arith, num-le (c .before .negative .result))
 
 returns : tie.Need-returns
 unfolding shifter negp
-returns c = rw (c .match .keys1, c .before .negative .ensures, doubled)
+returns c = rw (c .match .keys1) (λ i. record { value = doubled (c .before .before .args .w) i; carry = c .before .negative .ensures i })
 
 returns-2 : tie.Need-returns-2
 unfolding shifter shr lsb bit
