@@ -1,7 +1,8 @@
--- Which of two numbers is below the other, and tests that follow one another: what a proof by cases on numbers starts from.
+-- Which of two numbers is below the other, tests that follow one another, a test turned round, a choice without a branch: what a proof by
+-- cases starts from.
 use Prim.Native.Nat.{ℕ, _≤_, _<_}
 use mathlib.Core.Path.{_≡_, refl, sym, _∙_}
-use mathlib.Core.Bool.{Bool, true, false}
+use mathlib.Core.Bool.{Bool, true, false, not, cond, _&&_, _||_}
 use mathlib.Core.Logic.{_⊎_, inl, inr, ⊎-elim}
 use lib.Dec.{ltb}
 use borrow.Author.Tests.{lt-ltb, le-ltb, ltb-true, ltb-false}
@@ -17,3 +18,17 @@ lt-or-le a b = by-test (ltb a b) refl
 pub same-test : (a b c d : ℕ) → (a < b → c < d) → (b ≤ a → d ≤ c) → ltb a b ≡ ltb c d
 same-test a b c d f g =
     ⊎-elim (λ p. lt-ltb a b p ∙ sym (lt-ltb c d (f p))) (λ p. le-ltb a b p ∙ sym (le-ltb c d (g p))) (lt-or-le a b)
+
+pub turned : (b : Bool) → not b ≡ true → b ≡ false
+turned true e = sym e
+turned false e = refl
+
+pub upright : (b : Bool) → not b ≡ false → b ≡ true
+upright true e = refl
+upright false e = sym e
+
+-- a choice made without a branch
+pub chosen : (take new old : Bool) → ((take && new) || (not take && old)) ≡ cond take new old
+chosen true true old = refl
+chosen true false old = refl
+chosen false new old = refl

@@ -1,0 +1,3 @@
+-- What the definitions of specs/ mean.
+pub mod FirstPlace
+pub mod OneNumberAnEnd

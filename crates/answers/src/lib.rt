@@ -1,0 +1,62 @@
+// How the engine's calls answer: the counts of the two clocks, and the end of a call with the number
+// that the grader shows.
+ghost use mathlib.Core.Path.{_≡_};
+ghost use Rattle.answers.specs.Ends.{is-done, shown};
+
+// A count on the microcycle clock.
+#[repr(C)]
+pub struct Microcycles {
+    pub count: u64,
+}
+
+// A count on the instruction clock.
+#[repr(C)]
+pub struct Steps {
+    pub count: u64,
+}
+
+// How a call ended: done, or refused for the reason named, with the word or place that goes with it.
+pub enum End {
+    Done,
+    MemoryLength,
+    RegisterZero,
+    ProgramLength,
+    Microword(usize),
+    Outside,
+    Request(usize),
+    NextAddress,
+}
+
+// A number of the scope's table, and what goes with it.
+pub struct Numbered {
+    pub number: u64,
+    pub at: u64,
+}
+
+pub fn shown(end: End) -> Numbered
+    ensures { λ r. ⌜ r ≡ shown end ⌝ }
+{
+    match end {
+        End::Done => Numbered { number: 0, at: 0 },
+        End::MemoryLength => Numbered { number: 1, at: 0 },
+        End::RegisterZero => Numbered { number: 3, at: 0 },
+        End::ProgramLength => Numbered { number: 4, at: 0 },
+        End::Microword(word) => Numbered {
+            number: 5,
+            at: word as u64,
+        },
+        End::Outside => Numbered { number: 6, at: 0 },
+        End::Request(place) => Numbered {
+            number: 7,
+            at: place as u64,
+        },
+        End::NextAddress => Numbered { number: 8, at: 0 },
+    }
+}
+
+pub fn done(end: End) -> bool
+    ensures { λ r. ⌜ r ≡ is-done end ⌝ }
+{
+    let numbered = shown(end);
+    numbered.number == 0
+}

@@ -1,0 +1,2 @@
+-- What the definitions of specs/ mean, for the functions and for the levels above.
+pub mod Targets

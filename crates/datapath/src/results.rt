@@ -1,0 +1,114 @@
+// Where the result goes: the PSW, the registers, PC and MBR after a microcycle.
+ghost use mathlib.Core.Path.{_≡_};
+ghost use Rattle.datapath.specs.Results.{psw-lines, target-register, new-psw, new-reg, new-pc, new-mbr, new-system};
+use alu::AluOutput;
+use alu::Flags;
+use blocks::choice::choose;
+use microwords::microword::Microword;
+use status::psw::Change;
+use status::psw::Psw;
+use status::psw::PswLines;
+
+// The lines into the PSW that a microword drives; the clock line is high in phase four.
+fn lines(word: Microword, flags: Flags) -> PswLines
+    ensures { λ r. ⌜ r ≡ psw-lines word flags ⌝ }
+{
+    PswLines {
+        set: word.trgt == 2,
+        clock: true,
+        sm: Change {
+            set: word.ssm,
+            clear: word.csm,
+        },
+        ie: Change {
+            set: word.sie,
+            clear: word.cie,
+        },
+        load: Flags {
+            v: word.ldv,
+            n: word.ldn,
+            c: word.ldc,
+            z: word.ldz,
+        },
+        flags: flags,
+    }
+}
+
+pub fn psw(word: Microword, out: AluOutput, psw: Psw) -> Psw
+    ensures { λ r. ⌜ r ≡ new-psw word out psw ⌝ }
+{
+    status::psw::next(lines(word, out.flags), out.value, psw)
+}
+
+// The register that a target names; register 0, which is never written, where it names none.
+fn target_register(trgt: u32, dest: u32) -> u32
+    ensures { λ r. ⌜ r ≡ target-register trgt dest ⌝ }
+{
+    match trgt {
+        0 => dest,
+        1 => 1,
+        _ => 0,
+    }
+}
+
+// The register file, by the old sm.
+pub fn registers(trgt: u32, sm: bool, dest: u32, registers: [u32; 32], result: u32) -> [u32; 32]
+    ensures { λ r. ⌜ r ≡ new-reg trgt sm dest registers result ⌝ }
+{
+    words::registers::update(sm, target_register(trgt, dest), registers, result)
+}
+
+// The system registers that a result can go to.
+pub struct SystemRegisters {
+    pub pc: u32,
+    pub ir: u32,
+    pub mar: u32,
+    pub mbr: u32,
+}
+
+// PC, always or if the jump decision holds, by the old flags.
+fn pc(trgt: u32, dest: u32, psw: Psw, result: u32, pc: u32) -> u32
+    ensures { λ r. ⌜ r ≡ new-pc trgt dest psw result pc ⌝ }
+{
+    let jump = status::jump::decide(dest, psw);
+    choose((trgt == 4) | ((trgt == 5) & jump), result, pc)
+}
+
+// MBR: a word read goes before a result.
+fn mbr(memory: &[u32], word: Microword, mar: u32, result: u32, mbr: u32) -> u32
+    ensures { λ r. ⌜ r ≡ new-mbr (now (memory .entry)) word mar result mbr ⌝ }
+{
+    let rd = word.rd;
+    let take = word.mbr;
+    if rd {
+        return blocks::memory::load(memory, mar);
+    }
+    choose(take, result, mbr)
+}
+
+// The system registers after phase four.
+pub fn system(
+    memory: &[u32],
+    word: Microword,
+    dest: u32,
+    psw: Psw,
+    result: u32,
+    old: SystemRegisters,
+) -> SystemRegisters
+    ensures { λ r. ⌜ r ≡ new-system (now (memory .entry)) word dest psw result old ⌝ }
+{
+    let trgt = word.trgt;
+    let to_mar = !word.pmux & word.mar;
+    let SystemRegisters {
+        pc: old_pc,
+        ir: old_ir,
+        mar: old_mar,
+        mbr: old_mbr,
+    } = old;
+    SystemRegisters {
+        pc: pc(trgt, dest, psw, result, old_pc),
+        ir: choose(trgt == 3, result, old_ir),
+        mar: choose(to_mar, result, old_mar),
+        mbr: mbr(memory, word, old_mar, result, old_mbr),
+    }
+}

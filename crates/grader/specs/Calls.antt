@@ -1,0 +1,136 @@
+-- avm_run and avm_phase: what each answers and leaves in every lent place. The calls lend the registers as a list, so they alone can answer
+-- 2, between 1 and 3; all else is the library's. Assumes nothing.
+use Prim.Native.Nat.{ℕ}
+use mathlib.Core.Bool.{cond, not}
+use mathlib.Core.List.{List, [], _∷_}
+use lib.Dec.{eqb}
+use lib.ListN.{length, getD}
+use Rattle.words.specs.Lengths.{legal-length}
+use mir.Val.{boolByte as num}
+use Rattle.answers.specs.declared.End.{End}
+use Rattle.answers.specs.Ends.{is-done}
+use Rattle.phase_level.specs.declared.machine.PhaseState.{PhaseState}
+use Rattle.phase_level.specs.Call.{PhaseCalled, phase-call}
+use Rattle.micro_level.specs.declared.machine.MicroState.{MicroState}
+use Rattle.micro_level.specs.Run.{MicroCalled, run}
+use Rattle.grader.specs.declared.Answer.{Answer}
+use Rattle.grader.specs.Answers.{refused, answered}
+
+-- registers that a call is lent
+abbrev pub register-count : ℕ
+register-count = 32
+
+-- the state words in the header's order: PSW, PC, IR, MAR, MBR, MPC, vector
+abbrev pub micro-state : List ℕ → List ℕ → MicroState
+micro-state registers state =
+    record {
+      registers = registers;
+      psw = getD state 0 0;
+      pc = getD state 1 0;
+      ir = getD state 2 0;
+      mar = getD state 3 0;
+      mbr = getD state 4 0;
+      mpc = getD state 5 0;
+      ivec = getD state 6 0;
+    }
+
+abbrev pub state-words : MicroState → List ℕ
+state-words s = s .psw ∷ s .pc ∷ s .ir ∷ s .mar ∷ s .mbr ∷ s .mpc ∷ s .ivec ∷ []
+
+-- what avm_run answers and leaves
+pub record RunLeft : Type 0 where
+  pub answer : Answer
+  pub memory : List ℕ
+  pub registers : List ℕ
+  pub state : List ℕ
+
+abbrev pub run-left : MicroCalled → RunLeft
+run-left called =
+    record {
+      answer = answered (called .answer .end) (called .answer .microcycles) (called .answer .steps);
+      memory = called .memory;
+      registers = called .answer .state .registers;
+      state = state-words (called .answer .state);
+    }
+
+-- a refusal of the call's own: everything as lent
+abbrev pub run-untouched : ℕ → List ℕ → List ℕ → List ℕ → RunLeft
+run-untouched number mem registers state = record { answer = refused number; memory = mem; registers = registers; state = state }
+
+unfoldable pub avm-run : List ℕ → List ℕ → List ℕ → List ℕ → List ℕ → RunLeft
+avm-run program mem registers state requests =
+    cond (legal-length (length mem))
+    (cond (eqb (length registers) register-count)
+    (run-left (run program mem (micro-state registers state) requests))
+    (run-untouched 2 mem registers state))
+    (run-untouched 1 mem registers state)
+
+-- a phase state from the state words, the latch words (A latch, B latch, request, acknowledge; the last two count as set when not 0), MIR
+-- and the phase number
+abbrev pub phase-state : List ℕ → List ℕ → List ℕ → ℕ → ℕ → PhaseState
+phase-state registers state latches mir phase =
+    record {
+      registers = registers;
+      psw = getD state 0 0;
+      pc = getD state 1 0;
+      ivec = getD state 6 0;
+      ir = getD state 2 0;
+      mar = getD state 3 0;
+      mbr = getD state 4 0;
+      mpc = getD state 5 0;
+      alatch = getD latches 0 0;
+      blatch = getD latches 1 0;
+      ireq = not (eqb (getD latches 2 0) 0);
+      iack = not (eqb (getD latches 3 0) 0);
+      mir = mir;
+      phase = phase;
+    }
+
+abbrev pub phase-words : PhaseState → List ℕ
+phase-words s = s .psw ∷ s .pc ∷ s .ir ∷ s .mar ∷ s .mbr ∷ s .mpc ∷ s .ivec ∷ []
+
+abbrev pub latch-words : PhaseState → List ℕ
+latch-words s = s .alatch ∷ s .blatch ∷ num (s .ireq) ∷ num (s .iack) ∷ []
+
+-- what avm_phase answers and leaves
+pub record PhaseLeft : Type 0 where
+  pub answer : Answer
+  pub memory : List ℕ
+  pub registers : List ℕ
+  pub state : List ℕ
+  pub latches : List ℕ
+  pub mir : ℕ
+  pub phase : ℕ
+
+-- a refusal, with everything as lent
+abbrev pub phase-untouched : Answer → List ℕ → List ℕ → List ℕ → List ℕ → ℕ → ℕ → PhaseLeft
+phase-untouched answer mem registers state latches mir phase =
+    record { answer = answer; memory = mem; registers = registers; state = state; latches = latches; mir = mir; phase = phase }
+
+-- an end without counts
+abbrev pub uncounted : End → Answer
+uncounted end = answered end (record { count = 0 }) (record { count = 0 })
+
+abbrev pub phase-left : PhaseCalled → PhaseLeft
+phase-left called =
+    let s = called .answer .state in
+    record {
+      answer = uncounted (called .answer .end);
+      memory = called .memory;
+      registers = s .registers;
+      state = phase-words s;
+      latches = latch-words s;
+      mir = s .mir;
+      phase = s .phase;
+    }
+
+unfoldable pub avm-phase : List ℕ → List ℕ → List ℕ → List ℕ → List ℕ → ℕ → ℕ → ℕ → PhaseLeft
+avm-phase program mem registers state latches mir phase request =
+    let called = phase-call program mem (phase-state registers state latches mir phase) request in
+    cond (legal-length (length mem))
+    (cond (eqb (length registers) register-count)
+    (cond (is-done (called .answer .end))
+    (phase-left called)
+    (phase-untouched (uncounted (called .answer .end)) mem registers state latches mir phase))
+    (phase-untouched (refused 2) mem registers state latches mir phase))
+    (phase-untouched (refused 1) mem registers state latches mir phase)

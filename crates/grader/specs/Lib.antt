@@ -1,0 +1,3 @@
+-- The C calls, as include/schoonleech.h declares them.
+pub mod Answers
+pub mod Calls

@@ -1,0 +1,196 @@
+// The C calls: each tests everything it is lent, then calls the proved library, and gives back what
+// the library answers. include/schoonleech.h says the same to a C author.
+ghost use mathlib.Core.Path.{_≡_};
+ghost use lib.ListN.{length};
+ghost use Rattle.grader.specs.Answers.{refused, answered};
+ghost use Rattle.grader.specs.Calls.{avm-run, avm-phase};
+use answers::End;
+use answers::Microcycles;
+use answers::Steps;
+use micro_level::machine::MicroState;
+use phase_level::machine::PhaseState;
+
+// avm_answer of the header.
+#[repr(C)]
+pub struct Answer {
+    pub number: u64,
+    pub at: u64,
+    pub microcycles: Microcycles,
+    pub steps: Steps,
+}
+
+// A refusal that has nothing with it.
+fn refuse(number: u64) -> Answer
+    ensures { λ r. ⌜ r ≡ refused number ⌝ }
+{
+    let microcycles = Microcycles { count: 0 };
+    let steps = Steps { count: 0 };
+    Answer {
+        number: number,
+        at: 0,
+        microcycles: microcycles,
+        steps: steps,
+    }
+}
+
+// An end by its number, with the two clocks.
+fn answer_of(end: End, microcycles: Microcycles, steps: Steps) -> Answer
+    ensures { λ r. ⌜ r ≡ answered end microcycles steps ⌝ }
+{
+    let shown = answers::shown(end);
+    let number = shown.number;
+    let at = shown.at;
+    Answer {
+        number: number,
+        at: at,
+        microcycles: microcycles,
+        steps: steps,
+    }
+}
+
+// The registers as a value.
+fn take_registers(from: &[u32]) -> [u32; 32]
+    requires { ⌜ length (now from) ≡ 32 ⌝ }
+    ensures { λ r. ⌜ r ≡ now (from .entry) ⌝ }
+{
+    let mut registers = [0u32; 32];
+    let mut k: usize = 0;
+    while k < 32 {
+        registers[k] = from[k];
+        k += 1;
+    }
+    registers
+}
+
+// The registers back to where they were lent.
+fn give_registers(to: &mut [u32], registers: [u32; 32])
+    requires { ⌜ length (now to) ≡ 32 ⌝ }
+    ensures { λ _. ⌜ now (to .exit) ≡ registers ⌝ }
+{
+    let mut k: usize = 0;
+    while k < 32 {
+        to[k] = registers[k];
+        k += 1;
+    }
+}
+
+#[no_mangle]
+pub extern "C" fn avm_run(
+    program: &[u64],
+    memory: &mut [u32],
+    registers: &mut [u32],
+    state: &mut [u32; 7],
+    requests: &[u8],
+) -> Answer
+    ensures { λ r. ⌜ r ≡ avm-run (now (program .entry)) (now (memory .entry)) (now (registers .entry)) (now (state .entry)) (now (requests .entry)) .answer ⌝ }
+    ensures { λ _. ⌜ now (memory .exit) ≡ avm-run (now (program .entry)) (now (memory .entry)) (now (registers .entry)) (now (state .entry)) (now (requests .entry)) .memory ⌝ }
+    ensures { λ _. ⌜ now (registers .exit) ≡ avm-run (now (program .entry)) (now (memory .entry)) (now (registers .entry)) (now (state .entry)) (now (requests .entry)) .registers ⌝ }
+    ensures { λ _. ⌜ now (state .exit) ≡ avm-run (now (program .entry)) (now (memory .entry)) (now (registers .entry)) (now (state .entry)) (now (requests .entry)) .state ⌝ }
+{
+    if !words::lengths::legal(memory.len()) {
+        return refuse(1);
+    }
+    if registers.len() != 32 {
+        return refuse(2);
+    }
+    let file = take_registers(registers);
+    let lent = MicroState {
+        registers: file,
+        psw: state[0],
+        pc: state[1],
+        ir: state[2],
+        mar: state[3],
+        mbr: state[4],
+        mpc: state[5],
+        ivec: state[6],
+    };
+    let called = micro_level::run::run(program, memory, lent, requests);
+    let end = called.end;
+    let microcycles = called.microcycles;
+    let steps = called.steps;
+    let after = called.state;
+    let file_after = after.registers;
+    give_registers(registers, file_after);
+    *state = [
+        after.psw,
+        after.pc,
+        after.ir,
+        after.mar,
+        after.mbr,
+        after.mpc,
+        after.ivec,
+    ];
+    answer_of(end, microcycles, steps)
+}
+
+#[no_mangle]
+pub extern "C" fn avm_phase(
+    program: &[u64],
+    memory: &mut [u32],
+    registers: &mut [u32],
+    state: &mut [u32; 7],
+    latches: &mut [u32; 4],
+    mir: &mut u64,
+    phase: &mut u32,
+    request: u8,
+) -> Answer
+    ensures { λ r. ⌜ r ≡ avm-phase (now (program .entry)) (now (memory .entry)) (now (registers .entry)) (now (state .entry)) (now (latches .entry)) (now (mir .entry)) (now (phase .entry)) request .answer ⌝ }
+    ensures { λ _. ⌜ now (memory .exit) ≡ avm-phase (now (program .entry)) (now (memory .entry)) (now (registers .entry)) (now (state .entry)) (now (latches .entry)) (now (mir .entry)) (now (phase .entry)) request .memory ⌝ }
+    ensures { λ _. ⌜ now (registers .exit) ≡ avm-phase (now (program .entry)) (now (memory .entry)) (now (registers .entry)) (now (state .entry)) (now (latches .entry)) (now (mir .entry)) (now (phase .entry)) request .registers ⌝ }
+    ensures { λ _. ⌜ now (state .exit) ≡ avm-phase (now (program .entry)) (now (memory .entry)) (now (registers .entry)) (now (state .entry)) (now (latches .entry)) (now (mir .entry)) (now (phase .entry)) request .state ⌝ }
+    ensures { λ _. ⌜ now (latches .exit) ≡ avm-phase (now (program .entry)) (now (memory .entry)) (now (registers .entry)) (now (state .entry)) (now (latches .entry)) (now (mir .entry)) (now (phase .entry)) request .latches ⌝ }
+    ensures { λ _. ⌜ now (mir .exit) ≡ avm-phase (now (program .entry)) (now (memory .entry)) (now (registers .entry)) (now (state .entry)) (now (latches .entry)) (now (mir .entry)) (now (phase .entry)) request .mir ⌝ }
+    ensures { λ _. ⌜ now (phase .exit) ≡ avm-phase (now (program .entry)) (now (memory .entry)) (now (registers .entry)) (now (state .entry)) (now (latches .entry)) (now (mir .entry)) (now (phase .entry)) request .phase ⌝ }
+{
+    if !words::lengths::legal(memory.len()) {
+        return refuse(1);
+    }
+    if registers.len() != 32 {
+        return refuse(2);
+    }
+    let file = take_registers(registers);
+    let lent = PhaseState {
+        registers: file,
+        psw: state[0],
+        pc: state[1],
+        ivec: state[6],
+        ir: state[2],
+        mar: state[3],
+        mbr: state[4],
+        mpc: state[5],
+        alatch: latches[0],
+        blatch: latches[1],
+        ireq: latches[2] != 0,
+        iack: latches[3] != 0,
+        mir: *mir,
+        phase: *phase,
+    };
+    let called = phase_level::call::phase(program, memory, lent, request);
+    let end = called.end;
+    let microcycles = Microcycles { count: 0 };
+    let steps = Steps { count: 0 };
+    if !answers::done(end) {
+        return answer_of(end, microcycles, steps);
+    }
+    let after = called.state;
+    let file_after = after.registers;
+    give_registers(registers, file_after);
+    *state = [
+        after.psw,
+        after.pc,
+        after.ir,
+        after.mar,
+        after.mbr,
+        after.mpc,
+        after.ivec,
+    ];
+    *latches = [
+        after.alatch,
+        after.blatch,
+        after.ireq as u32,
+        after.iack as u32,
+    ];
+    *mir = after.mir;
+    *phase = after.phase;
+    answer_of(end, microcycles, steps)
+}

@@ -1,0 +1,9 @@
+-- Theorems over the definitions of specs/, a file each; the proofs of the functions stand in the folders of their modules.
+pub mod RunInduction
+pub mod RunKeeps
+pub mod RunJoins
+pub mod RunTurns
+pub mod RunTests
+pub mod RunCalls
+pub mod RunsInARow
+pub mod CutBy8

@@ -1,0 +1,180 @@
+// A run: one microcycle for each request byte.
+ghost use mathlib.Core.Path.{_≡_};
+ghost use Rattle.answers.specs.Places.{first-place};
+ghost use Rattle.micro_level.specs.Machine.{taken, given};
+ghost use Rattle.micro_level.specs.Run.{bad-request, micro-test, run-on, answer-of, run};
+use crate::machine::MicroState;
+use answers::End;
+use answers::Microcycles;
+use answers::Steps;
+use microcycle::MicroMachine;
+use microcycle::cycle;
+use microwords::sequencer::FETCH;
+
+// How a run went on: the state after the last completed microcycle, and the two clocks.
+pub struct Ran {
+    pub end: End,
+    pub microcycles: Microcycles,
+    pub steps: Steps,
+    pub machine: MicroMachine,
+}
+
+pub struct MicroAnswer {
+    pub end: End,
+    pub microcycles: Microcycles,
+    pub steps: Steps,
+    pub state: MicroState,
+}
+
+// The PSW's other bits are dropped.
+fn take(s: MicroState) -> MicroMachine
+    ensures { λ r. ⌜ r ≡ taken s ⌝ }
+{
+    let registers = s.registers;
+    let psw = status::psw::from_word(s.psw);
+    MicroMachine {
+        registers: registers,
+        psw: psw,
+        pc: s.pc,
+        ir: s.ir,
+        mar: s.mar,
+        mbr: s.mbr,
+        mpc: s.mpc,
+        ivec: s.ivec,
+    }
+}
+
+fn give(m: MicroMachine) -> MicroState
+    ensures { λ r. ⌜ r ≡ given m ⌝ }
+{
+    let registers = m.registers;
+    let psw = status::psw::to_word(m.psw);
+    MicroState {
+        registers: registers,
+        psw: psw,
+        pc: m.pc,
+        ir: m.ir,
+        mar: m.mar,
+        mbr: m.mbr,
+        mpc: m.mpc,
+        ivec: m.ivec,
+    }
+}
+
+// The first request byte out of range; the length where all are in range.
+fn first_bad(requests: &[u8]) -> usize
+    ensures { λ r. ⌜ r ≡ first-place bad-request (now (requests .entry)) ⌝ }
+{
+    let mut at: usize = 0;
+    while at < requests.len() {
+        if 3 < requests[at] {
+            return at;
+        }
+        at += 1;
+    }
+    at
+}
+
+// What a run is lent, lowest number first.
+fn tested(words: usize, program: &[u64], s: MicroState, requests: &[u8]) -> End
+    ensures { λ r. ⌜ r ≡ micro-test words (now (program .entry)) s (now (requests .entry)) ⌝ }
+{
+    let zero = s.registers[0];
+    let mpc = s.mpc as usize;
+    let lent = phase_level::tests::machine(words, zero, program);
+    if !answers::done(lent) {
+        return lent;
+    }
+    if program.len() <= mpc {
+        return End::Outside;
+    }
+    let place = first_bad(requests);
+    if place < requests.len() {
+        return End::Request(place);
+    }
+    End::Done
+}
+
+// The loop, and the microcycle's only caller.
+fn run_on(program: &[u64], memory: &mut [u32], s: MicroMachine, requests: &[u8]) -> Ran
+    ensures { λ r. ⌜ r ≡ run-on (now (program .entry)) (now (memory .entry)) s 0 0 (now (requests .entry)) .ran ⌝ }
+    ensures { λ _. ⌜ now (memory .exit) ≡ run-on (now (program .entry)) (now (memory .entry)) s 0 0 (now (requests .entry)) .memory ⌝ }
+{
+    let mut machine = s;
+    let mut returns: u64 = 0;
+    let mut at: usize = 0;
+    while at < requests.len() {
+        let cycled = cycle(program, memory, machine, requests[at]);
+        let left = cycled.left;
+        let next = cycled.machine;
+        let mpc = next.mpc;
+        if left {
+            let end = End::NextAddress;
+            let completed = Microcycles { count: at as u64 };
+            let returned = Steps { count: returns };
+            return Ran {
+                end: end,
+                microcycles: completed,
+                steps: returned,
+                machine: next,
+            };
+        }
+        machine = next;
+        returns += (mpc == FETCH) as u64;
+        at += 1;
+    }
+    let end = End::Done;
+    let microcycles = Microcycles { count: at as u64 };
+    let steps = Steps { count: returns };
+    Ran {
+        end: end,
+        microcycles: microcycles,
+        steps: steps,
+        machine: machine,
+    }
+}
+
+// The state after the last completed microcycle; with none completed, the state as lent.
+fn answer(s: MicroState, ran: Ran) -> MicroAnswer
+    ensures { λ r. ⌜ r ≡ answer-of s ran ⌝ }
+{
+    let end = ran.end;
+    let microcycles = ran.microcycles;
+    let steps = ran.steps;
+    let machine = ran.machine;
+    let untouched = !answers::done(end) & (microcycles.count == 0);
+    if untouched {
+        return MicroAnswer {
+            end: end,
+            microcycles: microcycles,
+            steps: steps,
+            state: s,
+        };
+    }
+    let state = give(machine);
+    MicroAnswer {
+        end: end,
+        microcycles: microcycles,
+        steps: steps,
+        state: state,
+    }
+}
+
+pub fn run(program: &[u64], memory: &mut [u32], s: MicroState, requests: &[u8]) -> MicroAnswer
+    ensures { λ r. ⌜ r ≡ run (now (program .entry)) (now (memory .entry)) s (now (requests .entry)) .answer ⌝ }
+    ensures { λ _. ⌜ now (memory .exit) ≡ run (now (program .entry)) (now (memory .entry)) s (now (requests .entry)) .memory ⌝ }
+{
+    let test = tested(memory.len(), program, s, requests);
+    if !answers::done(test) {
+        let microcycles = Microcycles { count: 0 };
+        let steps = Steps { count: 0 };
+        return MicroAnswer {
+            end: test,
+            microcycles: microcycles,
+            steps: steps,
+            state: s,
+        };
+    }
+    let ran = run_on(program, memory, take(s), requests);
+    answer(s, ran)
+}

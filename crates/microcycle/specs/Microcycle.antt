@@ -1,0 +1,68 @@
+-- One microcycle, under the microword at MPC: the state without latches, each part's new value from the state before. It is what the micro
+-- level's own definitions (FETCH, ISSUE, .., pp. 126-130) are instances of, word by word. The request is looked at where the next address
+-- is chosen. A microcycle whose next address is outside does nothing. Assumes nothing.
+use Prim.Native.Nat.{ℕ}
+use mathlib.Core.Bool.{Bool, cond, _&&_}
+use mathlib.Core.List.{List}
+use lib.Dec.{leb}
+use lib.ListN.{length}
+use Rattle.words.specs.Fields.{dest, srca, srcb, imm}
+use Rattle.words.specs.Registers.{register, ssp-reg}
+use Rattle.status.specs.Psw.{mk-psw}
+use Rattle.microwords.specs.declared.microword.Microword.{Microword}
+use Rattle.microwords.specs.Microword.{fields}
+use Rattle.blocks.specs.declared.memory.Store.{Store}
+use Rattle.blocks.specs.Memory.{applied}
+use Rattle.blocks.specs.Sources.{a-source, b-source}
+use Rattle.datapath.specs.Operation.{a-input, operated}
+use Rattle.datapath.specs.Results.{new-psw, new-reg, new-mpc, new-ir, new-pc, new-mbr, new-mar, new-store}
+use Rattle.phases.specs.Phases.{interrupt, word-at}
+use Rattle.microcycle.specs.declared.MicroMachine.{MicroMachine}
+use Rattle.microcycle.specs.declared.Cycled.{Cycled}
+
+-- the microword at MPC, by its fields
+abbrev pub word-of : List ℕ → MicroMachine → Microword
+word-of urom s = fields (word-at urom (s .mpc))
+
+-- MAR as memory is used with it: from PC where MAR and PMUX are both set
+abbrev pub mar-used : List ℕ → MicroMachine → ℕ
+mar-used urom s = let m = word-of urom s in cond (m .pmux && m .mar) (s .pc) (s .mar)
+
+unfoldable pub next-address : List ℕ → MicroMachine → ℕ → ℕ
+next-address urom s request = new-mpc (word-of urom s) (s .mpc) (s .ir) (interrupt request) (s .psw)
+
+unfoldable pub micro-store : List ℕ → MicroMachine → Store
+micro-store urom s = new-store (word-of urom s) (mar-used urom s) (s .mbr)
+
+unfoldable pub microcycle : List ℕ → List ℕ → MicroMachine → ℕ → MicroMachine
+microcycle urom mem s request =
+    let m = word-of urom s in
+    let reg = s .registers in
+    let a =
+    a-source (m .srca) (register reg (srca (s .ir))) (register reg (dest (s .ir))) (register reg ssp-reg) (mk-psw (s .psw)) (s .pc) in
+    let b = b-source (m .srcb) (register reg (srcb (s .ir))) (s .ivec) (imm (s .ir)) in
+    let mar = mar-used urom s in
+    let out = operated m (a-input m (s .mbr) a) b (s .psw .c) in
+    let result = out .value in
+    record {
+      registers = new-reg (m .trgt) (s .psw .sm) (dest (s .ir)) reg result;
+      psw = new-psw m out (s .psw);
+      pc = new-pc (m .trgt) (dest (s .ir)) (s .psw) result (s .pc);
+      ir = new-ir m result (s .ir);
+      mar = new-mar m result mar;
+      mbr = new-mbr mem m mar result (s .mbr);
+      mpc = next-address urom s request;
+      ivec = s .ivec;
+    }
+
+-- the next address is outside
+unfoldable pub leaves : List ℕ → MicroMachine → ℕ → Bool
+leaves urom s request = leb (length urom) (next-address urom s request)
+
+-- done, or the state as it was
+abbrev pub cycled : List ℕ → List ℕ → MicroMachine → ℕ → Cycled
+cycled urom mem s request =
+    record { left = leaves urom s request; machine = cond (leaves urom s request) s (microcycle urom mem s request) }
+
+abbrev pub cycled-memory : List ℕ → List ℕ → MicroMachine → ℕ → List ℕ
+cycled-memory urom mem s request = cond (leaves urom s request) mem (applied (micro-store urom s) mem)

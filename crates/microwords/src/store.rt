@@ -1,0 +1,39 @@
+// The test of a lent control store.
+ghost use mathlib.Core.Path.{_≡_};
+ghost use Rattle.answers.specs.Places.{first-place};
+ghost use Rattle.microwords.specs.ControlStore.{illegal, store-test};
+use crate::microword::legal;
+use answers::End;
+
+// The most words that a 6-bit counter can name.
+pub const MOST_MICROWORDS: usize = 64;
+
+// The lowest word that is not legal; the length where all are.
+fn lowest_illegal(program: &[u64]) -> usize
+    ensures { λ r. ⌜ r ≡ first-place illegal (now (program .entry)) ⌝ }
+{
+    let mut at: usize = 0;
+    while at < program.len() {
+        if !legal(program[at]) {
+            return at;
+        }
+        at += 1;
+    }
+    at
+}
+
+// Its length first, then its words.
+pub fn tested(program: &[u64]) -> End
+    ensures { λ r. ⌜ r ≡ store-test (now (program .entry)) ⌝ }
+{
+    let words = program.len();
+    let fits = (0 < words) & (words <= MOST_MICROWORDS);
+    if !fits {
+        return End::ProgramLength;
+    }
+    let word = lowest_illegal(program);
+    if word < words {
+        return End::Microword(word);
+    }
+    End::Done
+}

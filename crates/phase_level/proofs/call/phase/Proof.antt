@@ -1,0 +1,44 @@
+-- Each end is a case of the definition; an answer and a memory are the two parts of what was called.
+use borrow.Author.Needs.{needs}
+use mathlib.Core.Path.{_≡_, sym, ap}
+use Rattle.phase_level.specs.Call.{PhaseCalled}
+use Rattle.phase_level.proofs.PhaseCalls.{test-refused, left, went}
+use Rattle.phase_level.proofs.call.phase.Statement.{statement}
+use Rattle.phase_level.proofs.call.phase.Tie as tie
+
+returns : tie.Need-returns
+returns c =
+    let args = c .before .before .before .before .before .args in
+    let called = test-refused (args .program .now) (args .memory .now) (args .s) (args .request) (c .before .before .tested .ensures) (c .before .done .ensures) (c .if1 .taken) in
+    (sym (ap (λ (r : PhaseCalled). r .answer) called), sym (ap (λ (r : PhaseCalled). r .memory) called))
+
+returns-2 : tie.Need-returns-2
+returns-2 c =
+    let args = c .before .before .before .before .before .before .before .before .args in
+    let called = left (args .program .now) (args .memory .now) (args .s) (args .request) (c .before .before .before .before .before .tested .ensures) (c .before .before .before .before .done .ensures) (c .before .before .before .if1 .left) (c .before .before .take .ensures) (c .before .leaves .ensures) (c .if2 .taken) in
+    (sym (ap (λ (r : PhaseCalled). r .answer) called), sym (ap (λ (r : PhaseCalled). r .memory) called))
+
+returns-3 : tie.Need-returns-3
+returns-3 c =
+    let args = c .before .before .before .before .before .before .before .before .before .before .before .before .before .before .before .before .args in
+    let called =
+    went (args .program .now) (args .memory .now) (args .s) (args .request) (c .before .before .before .before .before .before .before .before .before .before .before .before .before .tested .ensures) (c .before .before .before .before .before .before .before .before .before .before .before .before .done .ensures) (c .before .before .before .before .before .before .before .before .before .before .before .if1 .left) (c .before .before .before .before .before .before .before .before .before .before .take .ensures) (c .before .before .before .before .before .before .before .before .before .leaves .ensures) (c .before .before .before .before .before .before .before .before .if2 .left)
+    (c .before .before .before .before .before .before .phase-done .ensures) (c .before .before .before .before .stores .ensures) (c .before .before .before .apply .ensures) (c .give .ensures) in
+    (sym (ap (λ (r : PhaseCalled). r .answer) called), sym (ap (λ (r : PhaseCalled). r .memory) called))
+
+pub phase-spec : {M : Type 1} → statement M
+phase-spec =
+    tie.close
+    (tie.spec
+    (λ c κs. search needs)
+    (λ c κs. search needs)
+    returns
+    (λ c κs. search needs)
+    (λ c κs. search needs)
+    returns-2
+    (λ c κs. search needs)
+    (λ c κs. search needs)
+    (λ c κs. search needs)
+    (λ c κs. search needs)
+    (λ c. search needs)
+    returns-3)

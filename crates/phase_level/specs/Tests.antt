@@ -1,0 +1,39 @@
+-- What a call tests of what it is lent, in the order of the scope's numbers. Assumes nothing.
+use Prim.Native.Nat.{ℕ}
+use mathlib.Core.Bool.{cond, _&&_}
+use mathlib.Core.List.{List}
+use lib.Dec.{eqb, ltb, leb}
+use lib.ListN.{length}
+use Rattle.words.specs.Lengths.{legal-length}
+use Rattle.words.specs.Registers.{register}
+use Rattle.answers.specs.declared.End.{End}
+use Rattle.answers.specs.declared.End.the-variants.{Done, MemoryLength, RegisterZero, Microword, Outside, Request}
+use Rattle.answers.specs.Ends.{is-done}
+use Rattle.microwords.specs.Codes.{legal-microword}
+use Rattle.microwords.specs.ControlStore.{store-test}
+use Rattle.phase_level.specs.declared.machine.PhaseState.{PhaseState}
+
+-- 1, 3, 4, 5: memory's length, register 0, the microprogram
+unfoldable pub machine-test : ℕ → ℕ → List ℕ → End
+machine-test words register-0 program =
+    cond (legal-length words) (cond (eqb register-0 0) (store-test program) RegisterZero) MemoryLength
+
+-- the largest request byte: interrupt and reset
+abbrev pub most-request : ℕ
+most-request = 3
+
+-- the number of phase four, the last
+abbrev pub last-phase : ℕ
+last-phase = 3
+
+-- a phase call's: after the microprogram its MIR, as the word numbered by the length, then MPC and phase number, then the request
+unfoldable pub phase-test : ℕ → List ℕ → PhaseState → ℕ → End
+phase-test words program s request =
+    let lent = machine-test words (register (s .registers) 0) program in
+    cond (is-done lent)
+    (cond (legal-microword (s .mir))
+    (cond (ltb (s .mpc) (length program) && leb (s .phase) last-phase)
+    (cond (leb request most-request) Done (Request 0))
+    Outside)
+    (Microword (length program)))
+    lent

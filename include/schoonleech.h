@@ -1,0 +1,127 @@
+/* Schoonleech: a simulated AVM-1, for C99 and C++.
+
+   AVM-1 is the microprogrammed processor of chapter 5 of P. J. Windley's dissertation (1990). docs/AVM1.md has its tables and docs/DECISIONS.md
+   what those leave open.
+
+   A caller lends places: a microprogram, memory, registers, a block of state words. A call reads them, changes some of them where they stand
+   and returns an avm_answer. It keeps nothing for the next call.
+
+   - A slice is a pointer and a number of elements. A slice of length 0 may come with NULL.
+   - A block with a fixed size (state, latches, mir, phase) has no length. It may not be NULL.
+   - No two lent places of a call may overlap, and each must be as long as the call is told.
+   - "As lent" means: the same bytes as before the call. A place behind a pointer to const is always as lent. */
+
+#ifndef SCHOONLEECH_H
+#define SCHOONLEECH_H
+
+#include <stddef.h>
+#include <stdint.h>
+
+#ifdef __cplusplus
+extern "C" {
+#endif
+
+/* Limits. */
+#define AVM_REGISTERS 32       /* registers, no more and no fewer                                 */
+#define AVM_WORDS_FEWEST 16    /* 32-bit words of memory: a power of two, at least this           */
+#define AVM_WORDS_MOST 16384   /* .. and at most this                                             */
+#define AVM_PROGRAM_MOST 64    /* microwords of a microprogram: at least 1 and at most this       */
+#define AVM_FETCH 0            /* the fetch address: MPC is here between two instructions         */
+
+/* Numbers of an answer. Numbers 1 to 7 are tested before anything is done, the lowest first, and the first that applies is the answer:
+   all lent places are then as lent. After 8 the completed microcycles of a run stay; see each call. */
+enum {
+    AVM_DONE = 0,                 /* nothing was refused                                                                    */
+    AVM_BAD_MEMORY_LENGTH = 1,    /* m is not a power of two from AVM_WORDS_FEWEST to AVM_WORDS_MOST                        */
+    AVM_BAD_REGISTER_COUNT = 2,   /* count is not AVM_REGISTERS                                                             */
+    AVM_REGISTER_0_NOT_ZERO = 3,  /* register 0 holds something other than 0                                                */
+    AVM_BAD_PROGRAM_LENGTH = 4,   /* words is 0 or above AVM_PROGRAM_MOST                                                   */
+    AVM_BAD_MICROWORD = 5,        /* a microword has a bit above 39 set or a code that no table names; at: the lowest such  */
+    AVM_OUTSIDE = 6,              /* MPC is not below words, or the phase number is above 3                                 */
+    AVM_BAD_REQUEST = 7,          /* a request byte is above 3; at: the first such place                                    */
+    AVM_LEFT_PROGRAM = 8          /* a microcycle would give a next address that is not below words                         */
+};
+
+/* Two clocks, two types: a count on one can't be taken for a count on the other. */
+typedef struct { uint64_t count; } avm_microcycles;      /* a count on the microcycle clock, four phases each */
+typedef struct { uint64_t count; } avm_instructions;     /* a count on the instruction clock                  */
+
+/* What a call returns. A field that the call does not name for this number is 0. Words and places are counted from 0. */
+typedef struct {
+    uint64_t number;               /* AVM_DONE, or why the call was refused                                                 */
+    uint64_t at;                   /* with 5 the word, with 7 the place in the request bytes                                */
+    avm_microcycles microcycles;   /* with 0 and 8: microcycles that a run completed                                        */
+    avm_instructions steps;        /* with 0 and 8: returns to fetch among them, microcycles after which MPC is AVM_FETCH   */
+} avm_answer;
+
+/* Words of the state block, by index; AVM_STATE is their number.
+
+   AVM_PSW   program status word: z bit 0, c bit 1, n bit 2, v bit 3, ie bit 4, sm bit 5. Higher bits mean nothing. A call drops them from the
+             lent PSW, also where it has no microcycle to do; a refused call that completed no microcycle leaves them as lent.
+   AVM_PC    program counter, an address in memory words
+   AVM_IR    instruction register
+   AVM_MAR   memory address register, an address in memory words
+   AVM_MBR   memory buffer register
+   AVM_MPC   microprogram counter: the address of the next microword, below words
+   AVM_IVEC  interrupt vector. No call changes it. */
+enum { AVM_PSW, AVM_PC, AVM_IR, AVM_MAR, AVM_MBR, AVM_MPC, AVM_IVEC, AVM_STATE };
+
+/* Words of the latch block that phase calls hand on, by index; AVM_LATCHES is their number.
+
+   AVM_ALATCH  word on the ALU's A side
+   AVM_BLATCH  word on the ALU's B side
+   AVM_IREQ    the request that phase one latched
+   AVM_IACK    the acknowledge that phase two latched
+
+   The last two hold one bit each: a word other than 0 counts as set, and unless the call is refused they come back as 0 or 1. */
+enum { AVM_ALATCH, AVM_BLATCH, AVM_IREQ, AVM_IACK, AVM_LATCHES };
+
+/* A microword is the low 40 bits of a uint64_t, the others 0. Its fields from the top, with their bits:
+
+       AMUX 39      SHFT 38..37   ALU 36..33   MAR 32       MBR 31       PMUX 30
+       SRCA 29..27  SRCB 26..25   TRGT 24..22  S.SM 21      C.SM 20      S.IE 19
+       C.IE 18      LD.C 17       LD.V 16      LD.N 15      LD.Z 14      CSRC 13
+       IACK 12      FTCH 11       RD 10        WR 9         COND 8..6    ADDR 5..0
+
+   Highest codes: ALU 10, SRCA 5, SRCB 2, TRGT 6, COND 4. All codes of the other fields are good. */
+
+/* Runs one microcycle for each request byte, in their order.
+
+   program, words    the microprogram, one microword each; only read
+   memory, m         memory, in words of 32 bits; an address is taken modulo m
+   registers, count  registers 0 to 31
+   state             the state block
+   requests, bytes   one byte a microcycle: 1 interrupt, 2 reset, 3 both, 0 neither; only read. Reset changes nothing in AVM-1.
+
+   Number 0: all bytes were run. memory, registers and state are those after the last microcycle, and the answer has the microcycles done
+   (that is bytes) and the returns among them. With no byte only the PSW's higher bits are dropped.
+   Numbers 1 to 7: refused, everything as lent.
+   Number 8: the run stopped before a microcycle that would have left the microprogram. That one stored nothing. The answer has the
+   microcycles and returns before it, and memory, registers and state are those after the last completed microcycle: everything is as lent,
+   the PSW's higher bits too, if there was none. */
+avm_answer avm_run(const uint64_t *program, size_t words, uint32_t *memory, size_t m, uint32_t *registers, size_t count,
+                   uint32_t state[AVM_STATE], const uint8_t *requests, size_t bytes);
+
+/* Does one phase, a quarter of a microcycle.
+
+   program .. state  as for avm_run
+   latches           the latch block
+   mir               the microinstruction register, a microword. It is tested for 5 after the program, as the word with the number words.
+   phase             the phase to do: 0 is phase one and 3 phase four. It comes back as the number of the next phase, 0 after 3.
+   request           a byte as in avm_run's list; tested in every phase and read by phase one. at is 0 when it is refused with 7.
+
+   Phase one loads mir from the program at MPC and latches the request. Phase two loads the two ALU latches and the acknowledge. Phase three
+   loads MAR from PC if the microword says so. Phase four stores the result, which can change memory, registers and state.
+
+   Number 0: the phase was done, the PSW's higher bits were dropped, and AVM_IREQ and AVM_IACK are 0 or 1.
+   Numbers 1 to 7: refused, everything as lent.
+   Number 8: comes from phase number 3 alone. Everything is as lent, so a MAR that an earlier call loaded stays.
+   The counts are 0 in every case. */
+avm_answer avm_phase(const uint64_t *program, size_t words, uint32_t *memory, size_t m, uint32_t *registers, size_t count,
+                     uint32_t state[AVM_STATE], uint32_t latches[AVM_LATCHES], uint64_t *mir, uint32_t *phase, uint8_t request);
+
+#ifdef __cplusplus
+}
+#endif
+
+#endif

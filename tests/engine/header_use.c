@@ -1,0 +1,44 @@
+/* A program that only uses the header. It is compiled as C99 and as C++, linked and run: its status is 0 where calls and numbers fit. */
+#include "../../include/schoonleech.h"
+#include "../../include/schoonleech.h"
+
+static int limits_fit(void)
+{
+    return AVM_REGISTERS == 32 && AVM_WORDS_FEWEST == 16 && AVM_WORDS_MOST == 16384 && AVM_PROGRAM_MOST == 64 && AVM_FETCH == 0;
+}
+
+static int numbers_fit(void)
+{
+    return AVM_DONE == 0 && AVM_BAD_MEMORY_LENGTH == 1 && AVM_BAD_REGISTER_COUNT == 2 && AVM_REGISTER_0_NOT_ZERO == 3 &&
+           AVM_BAD_PROGRAM_LENGTH == 4 && AVM_BAD_MICROWORD == 5 && AVM_OUTSIDE == 6 && AVM_BAD_REQUEST == 7 && AVM_LEFT_PROGRAM == 8;
+}
+
+static int places_fit(void)
+{
+    return AVM_PSW == 0 && AVM_PC == 1 && AVM_IR == 2 && AVM_MAR == 3 && AVM_MBR == 4 && AVM_MPC == 5 && AVM_IVEC == 6 &&
+           AVM_STATE == 7 && AVM_ALATCH == 0 && AVM_BLATCH == 1 && AVM_IREQ == 2 && AVM_IACK == 3 && AVM_LATCHES == 4 &&
+           sizeof(avm_answer) == 32 && sizeof(avm_microcycles) == 8 && sizeof(avm_instructions) == 8;
+}
+
+/* A microprogram of one word that leads to itself: two microcycles, two returns, and then phase one. */
+static int calls_fit(void)
+{
+    const uint64_t program[1] = {UINT64_C(0x742D800040)};
+    const uint8_t requests[2] = {0, 1};
+    uint32_t memory[AVM_WORDS_FEWEST] = {0}, registers[AVM_REGISTERS] = {0}, state[AVM_STATE] = {0}, latches[AVM_LATCHES] = {0};
+    uint32_t phase = 0;
+    uint64_t mir = 0;
+    avm_answer answer = avm_run(program, 1, memory, AVM_WORDS_FEWEST, registers, AVM_REGISTERS, state, requests, 2);
+    avm_microcycles microcycles = answer.microcycles;
+    avm_instructions steps = answer.steps;
+
+    if (answer.number != AVM_DONE || answer.at != 0 || microcycles.count != 2 || steps.count != 2)
+        return 0;
+    answer = avm_phase(program, 1, memory, AVM_WORDS_FEWEST, registers, AVM_REGISTERS, state, latches, &mir, &phase, 1);
+    return answer.number == AVM_DONE && mir == program[0] && phase == 1 && latches[AVM_IREQ] == 1;
+}
+
+int main(void)
+{
+    return limits_fit() && numbers_fit() && places_fit() && calls_fit() ? 0 : 1;
+}

@@ -1,0 +1,12 @@
+/* All tests of the engine's C calls. tests/engine.sh builds and runs this program. */
+#include "hand.h"
+
+int main(void)
+{
+    run_tests(word_tests);
+    run_tests(program_tests);
+    run_tests(phase_tests);
+    run_tests(refusal_tests);
+    run_tests(random_tests);
+    return report();
+}

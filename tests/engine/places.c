@@ -1,0 +1,172 @@
+#define _DEFAULT_SOURCE
+
+#include "places.h"
+
+#include <stdio.h>
+#include <stdlib.h>
+#include <string.h>
+#include <sys/mman.h>
+#include <unistd.h>
+
+#include "../simulator/simulator.h"
+#include "check.h"
+
+const struct implementation engine = {"engine", avm_run, avm_phase};
+const struct implementation simulator = {"second simulator", sim_run, sim_phase};
+
+avm_answer call_run(const struct implementation *implementation, const struct places *p)
+{
+    return implementation->run(p->program, p->words, p->memory, p->m, p->registers, p->count, p->state, p->requests, p->bytes);
+}
+
+avm_answer call_phase(const struct implementation *implementation, const struct places *p, uint8_t request)
+{
+    return implementation->phase(p->program, p->words, p->memory, p->m, p->registers, p->count, p->state, p->latches, p->mir, p->phase,
+                                 request);
+}
+
+struct places places_in(struct inputs *inputs)
+{
+    struct places places = {inputs->program, inputs->memory, inputs->registers, inputs->state, inputs->latches, &inputs->mir,
+                            &inputs->phase, inputs->requests, inputs->words, inputs->m, inputs->count, inputs->bytes};
+
+    return places;
+}
+
+/* Pages between two guard pages, and where in them a place was lent last. */
+struct area {
+    const char *name;
+    size_t room;
+    bool only_read;
+    unsigned char *pages, *place;
+    size_t length;
+};
+
+enum { PROGRAM, MEMORY, REGISTERS, STATE, LATCHES, MIR, PHASE, REQUESTS, AREAS };
+
+static struct area areas[AREAS] = {
+    {"program", PROGRAM_ROOM * sizeof(uint64_t), true, NULL, NULL, 0},
+    {"memory", MEMORY_ROOM * sizeof(uint32_t), false, NULL, NULL, 0},
+    {"registers", REGISTERS_ROOM * sizeof(uint32_t), false, NULL, NULL, 0},
+    {"state", AVM_STATE * sizeof(uint32_t), false, NULL, NULL, 0},
+    {"latches", AVM_LATCHES * sizeof(uint32_t), false, NULL, NULL, 0},
+    {"mir", sizeof(uint64_t), false, NULL, NULL, 0},
+    {"phase", sizeof(uint32_t), false, NULL, NULL, 0},
+    {"requests", REQUESTS_ROOM, true, NULL, NULL, 0},
+};
+
+static const unsigned char pattern = 0xA5;
+
+static void protect(void *pages, size_t length, int protection)
+{
+    if (mprotect(pages, length, protection) != 0) {
+        perror("mprotect");
+        exit(2);
+    }
+}
+
+static void map(struct area *area)
+{
+    size_t page = (size_t)sysconf(_SC_PAGESIZE);
+    unsigned char *all;
+
+    area->room = (area->room + page - 1) / page * page;
+    all = mmap(NULL, area->room + 2 * page, PROT_NONE, MAP_PRIVATE | MAP_ANONYMOUS, -1, 0);
+    if (all == MAP_FAILED) {
+        perror("mmap");
+        exit(2);
+    }
+    area->pages = all + page;
+}
+
+static void *lend_area(struct area *area, const void *bytes, size_t length, enum side side)
+{
+    if (area->pages == NULL)
+        map(area);
+    protect(area->pages, area->room, PROT_READ | PROT_WRITE);
+    memset(area->pages, pattern, area->room);
+    area->place = side == AT_START ? area->pages : area->pages + area->room - length;
+    area->length = length;
+    memcpy(area->place, bytes, length);
+    if (area->only_read)
+        protect(area->pages, area->room, PROT_READ);
+    return length == 0 && side == AT_START ? NULL : area->place;
+}
+
+struct places lend(const struct inputs *in, enum side side)
+{
+    struct places places;
+
+    places.program = lend_area(&areas[PROGRAM], in->program, in->words * sizeof in->program[0], side);
+    places.memory = lend_area(&areas[MEMORY], in->memory, in->m * sizeof in->memory[0], side);
+    places.registers = lend_area(&areas[REGISTERS], in->registers, in->count * sizeof in->registers[0], side);
+    places.state = lend_area(&areas[STATE], in->state, sizeof in->state, side);
+    places.latches = lend_area(&areas[LATCHES], in->latches, sizeof in->latches, side);
+    places.mir = lend_area(&areas[MIR], &in->mir, sizeof in->mir, side);
+    places.phase = lend_area(&areas[PHASE], &in->phase, sizeof in->phase, side);
+    places.requests = lend_area(&areas[REQUESTS], in->requests, in->bytes, side);
+    places.words = in->words;
+    places.m = in->m;
+    places.count = in->count;
+    places.bytes = in->bytes;
+    return places;
+}
+
+/* All bytes are the pattern: the first is, and each equals the one before it. */
+static bool untouched(const unsigned char *from, size_t length)
+{
+    return length == 0 || (from[0] == pattern && memcmp(from, from + 1, length - 1) == 0);
+}
+
+void expect_nothing_beyond(const char *who)
+{
+    const struct area *area;
+
+    for (area = areas; area < areas + AREAS; area++) {
+        size_t before = (size_t)(area->place - area->pages);
+        size_t after = area->room - before - area->length;
+
+        expect(untouched(area->pages, before), "%s wrote below the lent %s", who, area->name);
+        expect(untouched(area->place + area->length, after), "%s wrote above the lent %s", who, area->name);
+    }
+}
+
+void expect_same_answer(const char *who, avm_answer got, avm_answer want)
+{
+    expect(memcmp(&got, &want, sizeof got) == 0, "%s answers %llu at %llu, %llu microcycles, %llu returns, not %llu at %llu, %llu, %llu",
+           who, (unsigned long long)got.number, (unsigned long long)got.at, (unsigned long long)got.microcycles.count,
+           (unsigned long long)got.steps.count, (unsigned long long)want.number, (unsigned long long)want.at,
+           (unsigned long long)want.microcycles.count, (unsigned long long)want.steps.count);
+}
+
+static void expect_same_word(const char *who, const char *name, uint64_t got, uint64_t want)
+{
+    expect(got == want, "%s leaves %s as %08llX, not %08llX", who, name, (unsigned long long)got, (unsigned long long)want);
+}
+
+static void expect_same_words(const char *who, const char *name, const uint32_t *got, const uint32_t *want, size_t length)
+{
+    size_t place;
+
+    if (length == 0 || memcmp(got, want, length * sizeof *got) == 0)
+        return;
+    for (place = 0; got[place] == want[place]; place++)
+        continue;
+    expect(false, "%s leaves %s[%zu] as %08X, not %08X", who, name, place, (unsigned)got[place], (unsigned)want[place]);
+}
+
+void expect_same_places(const char *who, const struct places *got, const struct places *want)
+{
+    static const char *const state[AVM_STATE] = {"PSW", "PC", "IR", "MAR", "MBR", "MPC", "IVEC"};
+    static const char *const latches[AVM_LATCHES] = {"ALATCH", "BLATCH", "IREQ", "IACK"};
+    size_t k;
+
+    expect_same_words(who, "memory", got->memory, want->memory, want->m);
+    expect_same_words(who, "register", got->registers, want->registers, want->count);
+    for (k = 0; k < AVM_STATE; k++)
+        expect_same_word(who, state[k], got->state[k], want->state[k]);
+    for (k = 0; k < AVM_LATCHES; k++)
+        expect_same_word(who, latches[k], got->latches[k], want->latches[k]);
+    expect_same_word(who, "mir", *got->mir, *want->mir);
+    expect_same_word(who, "phase", *got->phase, *want->phase);
+}

@@ -1,0 +1,65 @@
+/* What a call is lent: the values (inputs), the places that hold them (places), and places between guard pages (lend). */
+#ifndef ENGINE_PLACES_H
+#define ENGINE_PLACES_H
+
+#include <stdbool.h>
+#include <stddef.h>
+#include <stdint.h>
+
+#include "../../include/schoonleech.h"
+
+/* Room for lengths that are refused too. */
+enum { PROGRAM_ROOM = 1024, MEMORY_ROOM = 32768, REGISTERS_ROOM = 64, REQUESTS_ROOM = 8192 };
+
+struct inputs {
+    uint64_t program[PROGRAM_ROOM];
+    uint32_t memory[MEMORY_ROOM];
+    uint32_t registers[REGISTERS_ROOM];
+    uint8_t requests[REQUESTS_ROOM];
+    size_t words, m, count, bytes;
+    uint32_t state[AVM_STATE];
+    uint32_t latches[AVM_LATCHES];
+    uint64_t mir;
+    uint32_t phase;
+};
+
+struct places {
+    uint64_t *program;
+    uint32_t *memory, *registers, *state, *latches;
+    uint64_t *mir;
+    uint32_t *phase;
+    uint8_t *requests;
+    size_t words, m, count, bytes;
+};
+
+/* Something that answers the two calls: the engine, or the second simulator. */
+struct implementation {
+    const char *name;
+    avm_answer (*run)(const uint64_t *program, size_t words, uint32_t *memory, size_t m, uint32_t *registers, size_t count,
+                      uint32_t *state, const uint8_t *requests, size_t bytes);
+    avm_answer (*phase)(const uint64_t *program, size_t words, uint32_t *memory, size_t m, uint32_t *registers, size_t count,
+                        uint32_t *state, uint32_t *latches, uint64_t *mir, uint32_t *phase, uint8_t request);
+};
+
+extern const struct implementation engine, simulator;
+
+avm_answer call_run(const struct implementation *implementation, const struct places *places);
+avm_answer call_phase(const struct implementation *implementation, const struct places *places, uint8_t request);
+
+/* The inputs' own arrays as places. */
+struct places places_in(struct inputs *inputs);
+
+/* Copies of the inputs, each in pages of its own between two pages that can't be touched: its last byte just before the second of them, or
+   its first byte just after the first. What is left of its pages holds a pattern. Program and requests can only be read. A slice of no
+   length is NULL on one side and points at the guard page on the other. Lending again takes the earlier places away. */
+enum side { AT_END, AT_START, SIDES };
+struct places lend(const struct inputs *inputs, enum side side);
+
+/* Expects that the pattern around the places of the last lend is whole. */
+void expect_nothing_beyond(const char *who);
+
+/* Expects equal answers and equal bytes in all places. */
+void expect_same_answer(const char *who, avm_answer got, avm_answer want);
+void expect_same_places(const char *who, const struct places *got, const struct places *want);
+
+#endif

@@ -1,0 +1,252 @@
+/* Seeded random comparisons of the engine with the second simulator, every place lent between guard pages. */
+#include "drawing.h"
+#include "hand.h"
+
+static struct inputs drawn, own;
+static uint64_t seen[AVM_LEFT_PROGRAM + 1]; /* answers by number */
+
+static enum side side_of(uint64_t number)
+{
+    return number % 2 == 0 ? AT_END : AT_START;
+}
+
+static void forget_answers(void)
+{
+    size_t number;
+
+    for (number = 0; number < COUNT(seen); number++)
+        seen[number] = 0;
+}
+
+/* A comparison shows something only where each of these answers came. */
+static void expect_seen(size_t lowest, size_t highest)
+{
+    size_t number;
+
+    for (number = lowest; number <= highest; number++)
+        expect(seen[number] > 0 || !holds_so_far(), "no case was answered with %zu", number);
+}
+
+static void compare_answers(avm_answer got, avm_answer want)
+{
+    expect_same_answer("engine", got, want);
+    if (want.number < COUNT(seen))
+        seen[want.number]++;
+}
+
+/* Runs the drawn inputs on both; answers the microcycles done. */
+static uint64_t compare_run(enum side side)
+{
+    struct places lent = lend(&drawn, side), mine;
+    avm_answer want;
+
+    own = drawn;
+    mine = places_in(&own);
+    want = call_run(&simulator, &mine);
+    compare_answers(call_run(&engine, &lent), want);
+    expect_same_places("engine", &lent, &mine);
+    expect_nothing_beyond("engine");
+    return want.microcycles.count;
+}
+
+static void random_runs(void)
+{
+    enum { SEED = 1990, CASES = 700 };
+    uint64_t number, microcycles = 0;
+
+    forget_answers();
+    for (number = 0; number < rounds(CASES) && holds_so_far(); number++) {
+        struct dice dice = dice_for(SEED, number);
+
+        stand_at(SEED, number);
+        draw_inputs(&dice, &drawn);
+        microcycles += compare_run(side_of(number));
+    }
+    expect_seen(AVM_DONE, AVM_DONE);
+    expect_seen(AVM_LEFT_PROGRAM, AVM_LEFT_PROGRAM);
+    expect(microcycles >= 1000000 || !holds_so_far(), "only %llu microcycles were compared", (unsigned long long)microcycles);
+    remark(" (%llu microcycles)", (unsigned long long)microcycles);
+}
+
+static void random_damaged_runs(void)
+{
+    enum { SEED = 5, CASES = 2000 };
+    uint64_t number;
+
+    forget_answers();
+    for (number = 0; number < rounds(CASES) && holds_so_far(); number++) {
+        struct dice dice = dice_for(SEED, number);
+
+        stand_at(SEED, number);
+        draw_inputs(&dice, &drawn);
+        draw_damage(&dice, &drawn);
+        compare_run(side_of(number));
+    }
+    expect_seen(AVM_DONE, AVM_LEFT_PROGRAM);
+}
+
+static void compare_phase(const struct places *lent, const struct places *mine, uint8_t request)
+{
+    avm_answer want = call_phase(&simulator, mine, request);
+
+    compare_answers(call_phase(&engine, lent, request), want);
+    expect_same_places("engine", lent, mine);
+    /* a microword that leaves would be refused for ever */
+    if (want.number == AVM_LEFT_PROGRAM)
+        *lent->mir = *mine->mir = pack(idle());
+}
+
+/* One of the words that a caller may change between two phase calls. */
+struct change {
+    size_t which;
+    uint32_t value;
+    uint64_t microword;
+};
+
+enum { CHANGES = AVM_STATE + AVM_LATCHES + 2 };
+
+static void apply(const struct change *change, const struct places *places)
+{
+    size_t which = change->which;
+
+    if (which == AVM_MPC)
+        places->state[AVM_MPC] = change->value % (uint32_t)places->words;
+    else if (which < AVM_STATE)
+        places->state[which] = change->value;
+    else if (which < AVM_STATE + AVM_LATCHES)
+        places->latches[which - AVM_STATE] = change->value;
+    else if (which == AVM_STATE + AVM_LATCHES)
+        *places->mir = change->microword;
+    else
+        *places->phase = change->value % 4;
+}
+
+static void change_both(struct dice *dice, const struct places *lent, const struct places *mine)
+{
+    struct change change;
+
+    change.which = dice_below(dice, CHANGES);
+    change.value = draw_value(dice);
+    change.microword = draw_microword(dice, 0, 64, false);
+    apply(&change, lent);
+    apply(&change, mine);
+}
+
+static void random_phases(void)
+{
+    enum { SEED = 110, CASES = 200, CALLS = 1000 };
+    uint64_t number, calls = 0;
+    unsigned call;
+
+    forget_answers();
+    for (number = 0; number < rounds(CASES) && holds_so_far(); number++) {
+        struct dice dice = dice_for(SEED, number);
+        struct places lent, mine;
+
+        stand_at(SEED, number);
+        draw_inputs(&dice, &drawn);
+        own = drawn;
+        mine = places_in(&own);
+        lent = lend(&drawn, side_of(number));
+        for (call = 0; call < CALLS && holds_so_far(); call++, calls++) {
+            if (dice_chance(&dice, 5))
+                change_both(&dice, &lent, &mine);
+            compare_phase(&lent, &mine, (uint8_t)dice_below(&dice, 4));
+        }
+        expect_nothing_beyond("engine");
+    }
+    expect_seen(AVM_DONE, AVM_DONE);
+    expect_seen(AVM_LEFT_PROGRAM, AVM_LEFT_PROGRAM);
+    remark(" (%llu calls)", (unsigned long long)calls);
+}
+
+static void random_damaged_phases(void)
+{
+    enum { SEED = 114, CASES = 3000 };
+    uint64_t number;
+
+    forget_answers();
+    for (number = 0; number < rounds(CASES) && holds_so_far(); number++) {
+        struct dice dice = dice_for(SEED, number);
+        struct places lent, mine;
+
+        stand_at(SEED, number);
+        draw_inputs(&dice, &drawn);
+        draw_damage(&dice, &drawn);
+        own = drawn;
+        mine = places_in(&own);
+        lent = lend(&drawn, side_of(number));
+        compare_phase(&lent, &mine, (uint8_t)(dice_chance(&dice, 20) ? dice_below(&dice, 256) : dice_below(&dice, 4)));
+        expect_nothing_beyond("engine");
+    }
+    expect_seen(AVM_DONE, AVM_LEFT_PROGRAM);
+}
+
+/* What four phase calls leave where the fourth is refused with 8: the three before it stay done, so MAR may have come from PC, and the PSW's
+   other bits are gone. */
+static void expect_three_phases(const struct places *lent)
+{
+    struct microword word = microword_fields(drawn.program[drawn.state[AVM_MPC]]);
+    struct places wanted;
+
+    own = drawn;
+    if (word.mar && word.pmux)
+        own.state[AVM_MAR] = own.state[AVM_PC];
+    own.state[AVM_PSW] &= 0x3F;
+    wanted = places_in(&own);
+    wanted.latches = lent->latches;
+    wanted.mir = lent->mir;
+    wanted.phase = lent->phase;
+    expect_same_places("four phase calls", lent, &wanted);
+    expect(*lent->phase == 3, "phase is %u after 8", (unsigned)*lent->phase);
+}
+
+/* The request byte of the first phase is the run's; those of the others are free. */
+static void compare_microcycle(struct dice *dice, enum side side)
+{
+    struct places lent = lend(&drawn, side), mine;
+    avm_answer of_run, of_phase;
+    unsigned phase;
+
+    own = drawn;
+    mine = places_in(&own);
+    of_run = call_run(&engine, &mine);
+    for (phase = 0; phase < 4; phase++) {
+        of_phase = call_phase(&engine, &lent, phase == 0 ? drawn.requests[0] : (uint8_t)dice_below(dice, 4));
+        expect(phase == 3 || of_phase.number == AVM_DONE, "phase %u answers %llu", phase, (unsigned long long)of_phase.number);
+    }
+    expect_same_answer("the fourth phase call", of_phase, refused(of_run.number, 0));
+    if (of_run.number == AVM_DONE) {
+        mine.latches = lent.latches;
+        mine.mir = lent.mir;
+        expect_same_places("four phase calls", &lent, &mine);
+    } else {
+        expect_three_phases(&lent);
+    }
+}
+
+static void four_phases_are_a_microcycle(void)
+{
+    enum { SEED = 137, CASES = 3000 };
+    uint64_t number;
+
+    for (number = 0; number < rounds(CASES) && holds_so_far(); number++) {
+        struct dice dice = dice_for(SEED, number);
+
+        stand_at(SEED, number);
+        draw_inputs(&dice, &drawn);
+        drawn.phase = 0;
+        drawn.bytes = 1;
+        drawn.requests[0] = (uint8_t)dice_below(&dice, 4);
+        compare_microcycle(&dice, side_of(number));
+    }
+}
+
+const struct test random_tests[] = {
+    {"random runs equal the second simulator's and touch nothing that is not lent", random_runs},
+    {"random damaged runs are refused alike and leave everything alike", random_damaged_runs},
+    {"random sequences of phase calls equal the second simulator's after every call", random_phases},
+    {"random damaged phase calls are refused alike and leave everything alike", random_damaged_phases},
+    {"four phase calls do what one byte of a run does", four_phases_are_a_microcycle},
+    {NULL, NULL},
+};

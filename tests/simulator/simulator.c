@@ -1,0 +1,172 @@
+#include "simulator.h"
+
+#include "microword.h"
+#include "phases.h"
+#include "words.h"
+
+static avm_answer numbered(uint64_t number, uint64_t at)
+{
+    avm_answer answer = {number, at, {0}, {0}};
+
+    return answer;
+}
+
+static bool is_power_of_two_in_range(size_t m)
+{
+    size_t power;
+
+    for (power = 16; power <= 16384; power *= 2)
+        if (m == power)
+            return true;
+    return false;
+}
+
+/* Numbers 1 to 5 of the scope, the lowest first, as far as both calls share them. */
+static avm_answer test_lent(const struct store *store, const uint32_t *registers, size_t count)
+{
+    size_t word;
+
+    if (!is_power_of_two_in_range(store->m))
+        return numbered(AVM_BAD_MEMORY_LENGTH, 0);
+    if (count != 32)
+        return numbered(AVM_BAD_REGISTER_COUNT, 0);
+    if (registers[0] != 0)
+        return numbered(AVM_REGISTER_0_NOT_ZERO, 0);
+    if (store->words < 1 || store->words > 64)
+        return numbered(AVM_BAD_PROGRAM_LENGTH, 0);
+    for (word = 0; word < store->words; word++)
+        if (!microword_is_legal(store->urom[word]))
+            return numbered(AVM_BAD_MICROWORD, word);
+    return numbered(AVM_DONE, 0);
+}
+
+static avm_answer test_run(const struct store *store, const uint32_t *registers, size_t count, const uint32_t *state,
+                           const uint8_t *requests, size_t bytes)
+{
+    avm_answer answer = test_lent(store, registers, count);
+    size_t place;
+
+    if (answer.number != AVM_DONE)
+        return answer;
+    if (state[AVM_MPC] >= store->words)
+        return numbered(AVM_OUTSIDE, 0);
+    for (place = 0; place < bytes; place++)
+        if (requests[place] > 3)
+            return numbered(AVM_BAD_REQUEST, place);
+    return numbered(AVM_DONE, 0);
+}
+
+/* The MIR is tested as the word after the program's last. */
+static avm_answer test_phase(const struct store *store, const uint32_t *registers, size_t count, const struct machine *machine,
+                             uint8_t request)
+{
+    avm_answer answer = test_lent(store, registers, count);
+
+    if (answer.number != AVM_DONE)
+        return answer;
+    if (!microword_is_legal(machine->mir))
+        return numbered(AVM_BAD_MICROWORD, store->words);
+    if (machine->mpc >= store->words || machine->clk > 3)
+        return numbered(AVM_OUTSIDE, 0);
+    if (request > 3)
+        return numbered(AVM_BAD_REQUEST, 0);
+    return numbered(AVM_DONE, 0);
+}
+
+/* Bit 0 is the interrupt request. Bit 1 is reset, which no definition of the source reads. */
+static bool interrupt_line(uint8_t request)
+{
+    return request & 1;
+}
+
+static void load_state(struct machine *machine, const uint32_t *state)
+{
+    machine->psw = psw_word(psw_fields(state[AVM_PSW]));
+    machine->pc = state[AVM_PC];
+    machine->ir = state[AVM_IR];
+    machine->mar = state[AVM_MAR];
+    machine->mbr = state[AVM_MBR];
+    machine->mpc = state[AVM_MPC];
+    machine->ivec = state[AVM_IVEC];
+}
+
+static void load_registers(struct machine *machine, const uint32_t *registers)
+{
+    unsigned number;
+
+    for (number = 0; number < 32; number++)
+        machine->reg[number] = registers[number];
+}
+
+static void give_back(const struct machine *machine, uint32_t *registers, uint32_t *state)
+{
+    unsigned number;
+
+    for (number = 0; number < 32; number++)
+        registers[number] = machine->reg[number];
+    state[AVM_PSW] = machine->psw;
+    state[AVM_PC] = machine->pc;
+    state[AVM_IR] = machine->ir;
+    state[AVM_MAR] = machine->mar;
+    state[AVM_MBR] = machine->mbr;
+    state[AVM_MPC] = machine->mpc;
+    state[AVM_IVEC] = machine->ivec;
+}
+
+avm_answer sim_run(const uint64_t *program, size_t words, uint32_t *memory, size_t m, uint32_t *registers, size_t count,
+                   uint32_t state[AVM_STATE], const uint8_t *requests, size_t bytes)
+{
+    struct store store = {program, words, memory, m};
+    struct machine machine = {0};
+    avm_answer answer = test_run(&store, registers, count, state, requests, bytes);
+    size_t place;
+
+    if (answer.number != AVM_DONE)
+        return answer;
+    load_state(&machine, state);
+    load_registers(&machine, registers);
+    for (place = 0; place < bytes; place++) {
+        if (!microcycle(&machine, &store, interrupt_line(requests[place]))) {
+            answer.number = AVM_LEFT_PROGRAM;
+            break;
+        }
+        answer.microcycles.count++;
+        if (machine.mpc == 0)
+            answer.steps.count++;
+    }
+    /* with no microcycle done a refused run gives even the PSW back as lent */
+    if (answer.number == AVM_DONE || answer.microcycles.count > 0)
+        give_back(&machine, registers, state);
+    return answer;
+}
+
+avm_answer sim_phase(const uint64_t *program, size_t words, uint32_t *memory, size_t m, uint32_t *registers, size_t count,
+                     uint32_t state[AVM_STATE], uint32_t latches[AVM_LATCHES], uint64_t *mir, uint32_t *phase, uint8_t request)
+{
+    struct store store = {program, words, memory, m};
+    struct machine machine = {.alatch = latches[AVM_ALATCH], .blatch = latches[AVM_BLATCH], .ireq_ff = latches[AVM_IREQ] != 0,
+                              .iack_ff = latches[AVM_IACK] != 0, .mir = *mir, .clk = *phase};
+    avm_answer answer;
+
+    load_state(&machine, state);
+    answer = test_phase(&store, registers, count, &machine, request);
+    if (answer.number != AVM_DONE)
+        return answer;
+    load_registers(&machine, registers);
+    switch (*phase) {
+    case 0: phase_one(&machine, &store, interrupt_line(request)); break;
+    case 1: phase_two(&machine); break;
+    case 2: phase_three(&machine); break;
+    case 3:
+        if (!phase_four(&machine, &store))
+            return numbered(AVM_LEFT_PROGRAM, 0);
+    }
+    give_back(&machine, registers, state);
+    latches[AVM_ALATCH] = machine.alatch;
+    latches[AVM_BLATCH] = machine.blatch;
+    latches[AVM_IREQ] = machine.ireq_ff;
+    latches[AVM_IACK] = machine.iack_ff;
+    *mir = machine.mir;
+    *phase = machine.clk;
+    return answer;
+}
