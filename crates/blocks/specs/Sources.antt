@@ -1,7 +1,10 @@
 -- What stands on the two buses that feed the ALU, by SRCA and SRCB (phase two, pp. 110-112; table 5.13, p. 120). Assumes nothing.
 use Prim.Native.Nat.{ℕ}
 use mathlib.Core.Bool.{cond}
+use mathlib.Core.List.{List}
 use lib.Dec.{eqb}
+use Rattle.words.specs.Fields.{dest, srca, srcb, imm}
+use Rattle.words.specs.Registers.{register, ssp-reg}
 use Rattle.microwords.specs.Codes.{from-reg-file, from-reg-dest, from-ssp, from-psw, from-c255, from-reg-file-b, from-ivec}
 
 -- the register of source A, the destination register, SSP, the PSW's word, the constant 255, PC
@@ -17,3 +20,10 @@ a-source code file dest ssp psw pc =
 -- the register of source B, the vector, the immediate
 unfoldable pub b-source : ℕ → ℕ → ℕ → ℕ → ℕ
 b-source code file ivec imm = cond (eqb code from-reg-file-b) file (cond (eqb code from-ivec) ivec imm)
+
+-- the two buses as phase two takes them from the state: the register file, the instruction and the system registers
+abbrev pub a-bus : ℕ → List ℕ → ℕ → ℕ → ℕ → ℕ
+a-bus code reg ir psw pc = a-source code (register reg (srca ir)) (register reg (dest ir)) (register reg ssp-reg) psw pc
+
+abbrev pub b-bus : ℕ → List ℕ → ℕ → ℕ → ℕ
+b-bus code reg ir ivec = b-source code (register reg (srcb ir)) ivec (imm ir)

@@ -8,9 +8,11 @@ use borrow.Author.Tests.{eq-eqb, ne-eqb}
 use Rattle.words.specs.Lengths.{legal-length}
 use Rattle.words.proofs.Cases.{turned, upright}
 use Rattle.answers.specs.Ends.{is-done}
+use Rattle.phase_level.specs.declared.machine.PhaseState.{PhaseState}
 use Rattle.phase_level.specs.declared.call.PhaseAnswer.{PhaseAnswer}
 use Rattle.phase_level.specs.Call.{PhaseCalled, phase-call}
 use Rattle.phase_level.proofs.PhaseCalls.{as-lent}
+use Rattle.micro_level.specs.declared.machine.MicroState.{MicroState}
 use Rattle.micro_level.specs.declared.run.MicroAnswer.{MicroAnswer}
 use Rattle.micro_level.specs.Run.{MicroCalled, run}
 use Rattle.grader.specs.Answers.{refused}
@@ -26,11 +28,11 @@ module _ (program mem registers state requests : List ℕ) {legal : Bool} (l : l
     unfolding avm-run
     run-2 n = rw (← l, upright legal h, ne-eqb (length registers) register-count n)
 
-    pub run-rest : length registers ≡ register-count → {file : List ℕ} {answer : MicroAnswer} {after : List ℕ}
-        → file ≡ registers → answer ≡ run program mem (micro-state file state) requests .answer → after ≡ run program mem (micro-state file state) requests .memory
+    pub run-rest : length registers ≡ register-count → {file : List ℕ} {lent : MicroState} {answer : MicroAnswer} {after : List ℕ}
+        → file ≡ registers → lent ≡ micro-state file state → answer ≡ run program mem lent requests .answer → after ≡ run program mem lent requests .memory
         → avm-run program mem registers state requests ≡ run-left (record { answer = answer; memory = after })
     unfolding avm-run
-    run-rest n f a m = rw (a, m, f, ← l, upright legal h, eq-eqb (length registers) register-count n)
+    run-rest n f t a m = rw (a, m, t, f, ← l, upright legal h, eq-eqb (length registers) register-count n)
 
 module _ (program mem registers state latches : List ℕ) (mir phase request : ℕ) {legal : Bool} (l : legal ≡ legal-length (length mem)) where
   pub phase-1 : not legal ≡ true
@@ -44,22 +46,23 @@ module _ (program mem registers state latches : List ℕ) (mir phase request : �
     unfolding avm-phase
     phase-2 n = rw (← l, upright legal h, ne-eqb (length registers) register-count n)
 
-    module _ (n : length registers ≡ register-count) {file : List ℕ} {answer : PhaseAnswer} {after : List ℕ} {done : Bool}
-        (f : file ≡ registers) (a : answer ≡ phase-call program mem (phase-state file state latches mir phase) request .answer)
-        (m : after ≡ phase-call program mem (phase-state file state latches mir phase) request .memory) (d : done ≡ is-done (answer .end)) where
+    module _ (n : length registers ≡ register-count) {file : List ℕ} {lent : PhaseState} {answer : PhaseAnswer} {after : List ℕ} {done : Bool}
+        (f : file ≡ registers) (t : lent ≡ phase-state file state latches mir phase) (a : answer ≡ phase-call program mem lent request .answer)
+        (m : after ≡ phase-call program mem lent request .memory) (d : done ≡ is-done (answer .end)) where
+      the-lent : lent ≡ phase-state registers state latches mir phase
+      the-lent = t ∙ ap (λ (reg : List ℕ). phase-state reg state latches mir phase) f
+
       pub phase-went : not done ≡ false
           → avm-phase program mem registers state latches mir phase request ≡ phase-left (record { answer = answer; memory = after })
       unfolding avm-phase
-      phase-went t = rw (← l, upright legal h, eq-eqb (length registers) register-count n, ← f, ← m, ← a, ← d, upright done t)
+      phase-went g = rw (← l, upright legal h, eq-eqb (length registers) register-count n, ← the-lent, ← m, ← a, ← d, upright done g)
 
       pub phase-refused : not done ≡ true
           → avm-phase program mem registers state latches mir phase request
           ≡ phase-untouched (uncounted (answer .end)) mem registers state latches mir phase
       unfolding avm-phase
-      phase-refused t = rw (← l, upright legal h, eq-eqb (length registers) register-count n, ← f, ← a, ← d, turned done t)
+      phase-refused g = rw (← l, upright legal h, eq-eqb (length registers) register-count n, ← the-lent, ← a, ← d, turned done g)
 
       -- the library's call left memory as lent
       pub memory-kept : not done ≡ true → after ≡ mem
-      memory-kept t =
-          m ∙ as-lent program mem (phase-state file state latches mir phase) request
-          (sym (ap (λ (r : PhaseAnswer). is-done (r .end)) a) ∙ sym d ∙ turned done t) .0
+      memory-kept g = m ∙ as-lent program mem lent request (sym (ap (λ (r : PhaseAnswer). is-done (r .end)) a) ∙ sym d ∙ turned done g) .0

@@ -3,7 +3,7 @@
 ghost use mathlib.Core.Path.{_≡_};
 ghost use lib.ListN.{length};
 ghost use Rattle.grader.specs.Answers.{refused, answered};
-ghost use Rattle.grader.specs.Calls.{avm-run, avm-phase};
+ghost use Rattle.grader.specs.Calls.{micro-state, state-words, avm-run, phase-state, phase-words, latch-words, avm-phase};
 use answers::End;
 use answers::Microcycles;
 use answers::Steps;
@@ -74,6 +74,69 @@ fn give_registers(to: &mut [u32], registers: [u32; 32])
     }
 }
 
+// A state from the registers and the state words.
+fn micro_state(registers: [u32; 32], state: &[u32; 7]) -> MicroState
+    ensures { λ r. ⌜ r ≡ micro-state registers (now (state .entry)) ⌝ }
+{
+    MicroState {
+        registers: registers,
+        psw: state[0],
+        pc: state[1],
+        ir: state[2],
+        mar: state[3],
+        mbr: state[4],
+        mpc: state[5],
+        ivec: state[6],
+    }
+}
+
+// The state words again.
+fn state_words(s: MicroState) -> [u32; 7]
+    ensures { λ r. ⌜ r ≡ state-words s ⌝ }
+{
+    [s.psw, s.pc, s.ir, s.mar, s.mbr, s.mpc, s.ivec]
+}
+
+// A phase state from everything that a phase call is lent for it.
+fn phase_state(
+    registers: [u32; 32],
+    state: &[u32; 7],
+    latches: &[u32; 4],
+    mir: u64,
+    phase: u32,
+) -> PhaseState
+    ensures { λ r. ⌜ r ≡ phase-state registers (now (state .entry)) (now (latches .entry)) mir phase ⌝ }
+{
+    PhaseState {
+        registers: registers,
+        psw: state[0],
+        pc: state[1],
+        ivec: state[6],
+        ir: state[2],
+        mar: state[3],
+        mbr: state[4],
+        mpc: state[5],
+        alatch: latches[0],
+        blatch: latches[1],
+        ireq: latches[2] != 0,
+        iack: latches[3] != 0,
+        mir: mir,
+        phase: phase,
+    }
+}
+
+fn phase_words(s: PhaseState) -> [u32; 7]
+    ensures { λ r. ⌜ r ≡ phase-words s ⌝ }
+{
+    [s.psw, s.pc, s.ir, s.mar, s.mbr, s.mpc, s.ivec]
+}
+
+fn latch_words(s: PhaseState) -> [u32; 4]
+    ensures { λ r. ⌜ r ≡ latch-words s ⌝ }
+{
+    [s.alatch, s.blatch, s.ireq as u32, s.iack as u32]
+}
+
 #[no_mangle]
 pub extern "C" fn avm_run(
     program: &[u64],
@@ -94,16 +157,7 @@ pub extern "C" fn avm_run(
         return refuse(2);
     }
     let file = take_registers(registers);
-    let lent = MicroState {
-        registers: file,
-        psw: state[0],
-        pc: state[1],
-        ir: state[2],
-        mar: state[3],
-        mbr: state[4],
-        mpc: state[5],
-        ivec: state[6],
-    };
+    let lent = micro_state(file, state);
     let called = micro_level::run::run(program, memory, lent, requests);
     let end = called.end;
     let microcycles = called.microcycles;
@@ -111,15 +165,7 @@ pub extern "C" fn avm_run(
     let after = called.state;
     let file_after = after.registers;
     give_registers(registers, file_after);
-    *state = [
-        after.psw,
-        after.pc,
-        after.ir,
-        after.mar,
-        after.mbr,
-        after.mpc,
-        after.ivec,
-    ];
+    *state = state_words(after);
     answer_of(end, microcycles, steps)
 }
 
@@ -149,22 +195,7 @@ pub extern "C" fn avm_phase(
         return refuse(2);
     }
     let file = take_registers(registers);
-    let lent = PhaseState {
-        registers: file,
-        psw: state[0],
-        pc: state[1],
-        ivec: state[6],
-        ir: state[2],
-        mar: state[3],
-        mbr: state[4],
-        mpc: state[5],
-        alatch: latches[0],
-        blatch: latches[1],
-        ireq: latches[2] != 0,
-        iack: latches[3] != 0,
-        mir: *mir,
-        phase: *phase,
-    };
+    let lent = phase_state(file, state, latches, *mir, *phase);
     let called = phase_level::call::phase(program, memory, lent, request);
     let end = called.end;
     let microcycles = Microcycles { count: 0 };
@@ -175,21 +206,8 @@ pub extern "C" fn avm_phase(
     let after = called.state;
     let file_after = after.registers;
     give_registers(registers, file_after);
-    *state = [
-        after.psw,
-        after.pc,
-        after.ir,
-        after.mar,
-        after.mbr,
-        after.mpc,
-        after.ivec,
-    ];
-    *latches = [
-        after.alatch,
-        after.blatch,
-        after.ireq as u32,
-        after.iack as u32,
-    ];
+    *state = phase_words(after);
+    *latches = latch_words(after);
     *mir = after.mir;
     *phase = after.phase;
     answer_of(end, microcycles, steps)

@@ -6,14 +6,13 @@ use mathlib.Core.Bool.{Bool, cond, _&&_}
 use mathlib.Core.List.{List}
 use lib.Dec.{leb}
 use lib.ListN.{length}
-use Rattle.words.specs.Fields.{dest, srca, srcb, imm}
-use Rattle.words.specs.Registers.{register, ssp-reg}
+use Rattle.words.specs.Fields.{dest}
 use Rattle.status.specs.Psw.{mk-psw}
 use Rattle.microwords.specs.declared.microword.Microword.{Microword}
 use Rattle.microwords.specs.Microword.{fields}
 use Rattle.blocks.specs.declared.memory.Store.{Store}
 use Rattle.blocks.specs.Memory.{applied}
-use Rattle.blocks.specs.Sources.{a-source, b-source}
+use Rattle.blocks.specs.Sources.{a-bus, b-bus}
 use Rattle.datapath.specs.Operation.{a-input, operated}
 use Rattle.datapath.specs.Results.{new-psw, new-reg, new-mpc, new-ir, new-pc, new-mbr, new-mar, new-store}
 use Rattle.phases.specs.Phases.{interrupt, word-at}
@@ -37,15 +36,13 @@ micro-store urom s = new-store (word-of urom s) (mar-used urom s) (s .mbr)
 unfoldable pub microcycle : List ℕ → List ℕ → MicroMachine → ℕ → MicroMachine
 microcycle urom mem s request =
     let m = word-of urom s in
-    let reg = s .registers in
-    let a =
-    a-source (m .srca) (register reg (srca (s .ir))) (register reg (dest (s .ir))) (register reg ssp-reg) (mk-psw (s .psw)) (s .pc) in
-    let b = b-source (m .srcb) (register reg (srcb (s .ir))) (s .ivec) (imm (s .ir)) in
+    let a = a-bus (m .srca) (s .registers) (s .ir) (mk-psw (s .psw)) (s .pc) in
+    let b = b-bus (m .srcb) (s .registers) (s .ir) (s .ivec) in
     let mar = mar-used urom s in
     let out = operated m (a-input m (s .mbr) a) b (s .psw .c) in
     let result = out .value in
     record {
-      registers = new-reg (m .trgt) (s .psw .sm) (dest (s .ir)) reg result;
+      registers = new-reg (m .trgt) (s .psw .sm) (dest (s .ir)) (s .registers) result;
       psw = new-psw m out (s .psw);
       pc = new-pc (m .trgt) (dest (s .ir)) (s .psw) result (s .pc);
       ir = new-ir m result (s .ir);

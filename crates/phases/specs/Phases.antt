@@ -5,12 +5,11 @@ use mathlib.Core.Bool.{Bool, cond, _&&_}
 use mathlib.Core.List.{List}
 use lib.ListN.{getD}
 use Rattle.words.specs.Words.{bit}
-use Rattle.words.specs.Fields.{dest, srca, srcb, imm}
-use Rattle.words.specs.Registers.{register, ssp-reg}
+use Rattle.words.specs.Fields.{dest}
 use Rattle.status.specs.Psw.{mk-psw}
 use Rattle.microwords.specs.Microword.{fields}
 use Rattle.blocks.specs.declared.memory.Store.{Store}
-use Rattle.blocks.specs.Sources.{a-source, b-source}
+use Rattle.blocks.specs.Sources.{a-bus, b-bus}
 use Rattle.datapath.specs.Operation.{operated}
 use Rattle.datapath.specs.Results.{new-psw, new-reg, new-mpc, new-ir, new-pc, new-mbr, new-mar, new-store}
 use Rattle.phases.specs.declared.PhaseMachine.{PhaseMachine}
@@ -49,10 +48,8 @@ phase-one urom s request =
 unfoldable pub phase-two : PhaseMachine → PhaseMachine
 phase-two s =
     let m = fields (s .mir) in
-    let reg = s .registers in
-    let new-alatch =
-    a-source (m .srca) (register reg (srca (s .ir))) (register reg (dest (s .ir))) (register reg ssp-reg) (mk-psw (s .psw)) (s .pc) in
-    let new-blatch = b-source (m .srcb) (register reg (srcb (s .ir))) (s .ivec) (imm (s .ir)) in
+    let new-alatch = a-bus (m .srca) (s .registers) (s .ir) (mk-psw (s .psw)) (s .pc) in
+    let new-blatch = b-bus (m .srcb) (s .registers) (s .ir) (s .ivec) in
     record {
       registers = s .registers;
       psw = s .psw;

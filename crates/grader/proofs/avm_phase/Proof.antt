@@ -41,24 +41,24 @@ returns-2 c =
 
 returns-3 : tie.Need-returns-3
 returns-3 c =
-    let args = c .before .before .before .before .before .before .before .before .before .before .before .before .before .before .before .before .before .before .before .before .before .before .before .before .before .before .before .before .args in
+    let args = c .before .before .before .before .before .before .before .before .before .before .before .before .before .before .before .before .before .before .before .before .args in
     let called = c .before .before .before .before .before .phase .ensures in
     let left =
-    phase-refused (args .program .now) (args .memory .now) (args .registers .now) (args .state .now) (args .latches .now) (args .mir .now) (args .phase .now) (args .request) (c .before .before .before .before .before .before .before .before .before .before .before .before .before .before .before .before .before .before .before .before .before .before .before .before .legal .ensures) (c .before .before .before .before .before .before .before .before .before .before .before .before .before .before .before .before .before .before .before .before .before .before .before .if1 .left) (c .before .before .before .before .before .before .before .before .before .before .before .before .before .before .before .before .before .before .before .before .before .before .if2 .left)
-    (c .before .before .before .before .before .before .before .before .before .before .before .before .before .before .before .before .before .before .before .before .take-registers .ensures) (called .0) (called .1) (c .before .before .done .ensures) (c .before .if3 .taken) in
+    phase-refused (args .program .now) (args .memory .now) (args .registers .now) (args .state .now) (args .latches .now) (args .mir .now) (args .phase .now) (args .request) (c .before .before .before .before .before .before .before .before .before .before .before .before .before .before .before .before .legal .ensures) (c .before .before .before .before .before .before .before .before .before .before .before .before .before .before .before .if1 .left) (c .before .before .before .before .before .before .before .before .before .before .before .before .before .before .if2 .left)
+    (c .before .before .before .before .before .before .before .before .before .before .before .before .take-registers .ensures) (c .before .before .before .before .before .before .before .phase-state .ensures) (called .0) (called .1) (c .before .before .done .ensures) (c .before .if3 .taken) in
     let kept =
-    memory-kept (args .program .now) (args .memory .now) (args .registers .now) (args .state .now) (args .latches .now) (args .mir .now) (args .phase .now) (args .request) (c .before .before .before .before .before .before .before .before .before .before .before .before .before .before .before .before .before .before .before .before .before .before .before .before .legal .ensures) (c .before .before .before .before .before .before .before .before .before .before .before .before .before .before .before .before .before .before .before .before .before .before .before .if1 .left) (c .before .before .before .before .before .before .before .before .before .before .before .before .before .before .before .before .before .before .before .before .before .before .if2 .left)
-    (c .before .before .before .before .before .before .before .before .before .before .before .before .before .before .before .before .before .before .before .before .take-registers .ensures) (called .0) (called .1) (c .before .before .done .ensures) (c .before .if3 .taken) in
+    memory-kept (args .program .now) (args .memory .now) (args .registers .now) (args .state .now) (args .latches .now) (args .mir .now) (args .phase .now) (args .request) (c .before .before .before .before .before .before .before .before .before .before .before .before .before .before .before .before .legal .ensures) (c .before .before .before .before .before .before .before .before .before .before .before .before .before .before .before .if1 .left) (c .before .before .before .before .before .before .before .before .before .before .before .before .before .before .if2 .left)
+    (c .before .before .before .before .before .before .before .before .before .before .before .before .take-registers .ensures) (c .before .before .before .before .before .before .before .phase-state .ensures) (called .0) (called .1) (c .before .before .done .ensures) (c .before .if3 .taken) in
     (c .answer-of .ensures ∙ of-answer left, (kept ∙ of-memory left, (of-registers left, (of-state left, (of-latches left, (of-mir left, of-phase left))))))
 
 returns-4 : tie.Need-returns-4
 returns-4 c =
-    let args = c .before .before .before .before .before .before .before .before .before .before .before .before .before .before .before .before .before .before .before .before .before .before .before .before .before .before .before .before .before .before .before .before .before .before .before .before .before .before .args in
-    let called = c .before .before .before .before .before .before .before .before .before .before .before .before .before .before .before .phase .ensures in
+    let args = c .before .before .before .before .before .before .before .before .before .before .before .before .before .before .before .before .before .before .before .before .before .before .before .before .before .before .before .before .args in
+    let called = c .before .before .before .before .before .before .before .before .before .before .before .before .before .phase .ensures in
     let left =
-    phase-went (args .program .now) (args .memory .now) (args .registers .now) (args .state .now) (args .latches .now) (args .mir .now) (args .phase .now) (args .request) (c .before .before .before .before .before .before .before .before .before .before .before .before .before .before .before .before .before .before .before .before .before .before .before .before .before .before .before .before .before .before .before .before .before .before .legal .ensures) (c .before .before .before .before .before .before .before .before .before .before .before .before .before .before .before .before .before .before .before .before .before .before .before .before .before .before .before .before .before .before .before .before .before .if1 .left) (c .before .before .before .before .before .before .before .before .before .before .before .before .before .before .before .before .before .before .before .before .before .before .before .before .before .before .before .before .before .before .before .before .if2 .left)
-    (c .before .before .before .before .before .before .before .before .before .before .before .before .before .before .before .before .before .before .before .before .before .before .before .before .before .before .before .before .before .before .take-registers .ensures) (called .0) (called .1) (c .before .before .before .before .before .before .before .before .before .before .before .before .done .ensures) (c .before .before .before .before .before .before .before .before .before .before .before .if3 .left) in
-    (c .answer-of2 .ensures ∙ of-answer left, (of-memory left, (c .before .before .before .before .before .before .before .give-registers .ensures ∙ of-registers left, (of-state left, (of-latches left, (of-mir left, of-phase left))))))
+    phase-went (args .program .now) (args .memory .now) (args .registers .now) (args .state .now) (args .latches .now) (args .mir .now) (args .phase .now) (args .request) (c .before .before .before .before .before .before .before .before .before .before .before .before .before .before .before .before .before .before .before .before .before .before .before .before .legal .ensures) (c .before .before .before .before .before .before .before .before .before .before .before .before .before .before .before .before .before .before .before .before .before .before .before .if1 .left) (c .before .before .before .before .before .before .before .before .before .before .before .before .before .before .before .before .before .before .before .before .before .before .if2 .left)
+    (c .before .before .before .before .before .before .before .before .before .before .before .before .before .before .before .before .before .before .before .before .take-registers .ensures) (c .before .before .before .before .before .before .before .before .before .before .before .before .before .before .before .phase-state .ensures) (called .0) (called .1) (c .before .before .before .before .before .before .before .before .before .before .done .ensures) (c .before .before .before .before .before .before .before .before .before .if3 .left) in
+    (c .answer-of2 .ensures ∙ of-answer left, (of-memory left, (c .before .before .before .before .before .give-registers .ensures ∙ of-registers left, (c .before .before .phase-words .ensures ∙ of-state left, (c .before .latch-words .ensures ∙ of-latches left, (of-mir left, of-phase left))))))
 
 pub avm-phase-spec : {M : Type 1} → statement M
 avm-phase-spec =
@@ -70,17 +70,7 @@ avm-phase-spec =
     (λ c κs. search needs)
     returns-2
     (λ c κs. search needs)
-    (λ c. search needs)
-    (λ c. search needs)
-    (λ c. search needs)
-    (λ c. search needs)
-    (λ c. search needs)
-    (λ c. search needs)
-    (λ c. search needs)
-    (λ c. search needs)
-    (λ c. search needs)
-    (λ c. search needs)
-    (λ c. search needs)
+    (λ c κs. search needs)
     (λ c κs. search needs)
     (λ c κs. search needs)
     (λ c κs. search needs)
@@ -88,8 +78,8 @@ avm-phase-spec =
     (λ c. search needs)
     returns-3
     (λ c κs. search needs)
-    (λ c. search needs)
-    (λ c. search needs)
+    (λ c κs. search needs)
+    (λ c κs. search needs)
     (λ c κs. search needs)
     (λ c. search needs)
     (λ c. search needs)

@@ -32,12 +32,12 @@ returns-2 c =
 
 returns-3 : tie.Need-returns-3
 returns-3 c =
-    let args = c .before .before .before .before .before .before .before .before .before .before .before .before .before .before .before .before .before .before .before .before .before .before .before .before .before .before .before .before .before .before .args in
+    let args = c .before .before .before .before .before .before .before .before .before .before .before .before .before .before .before .before .before .before .before .before .before .before .before .before .before .args in
     let called = c .before .before .before .before .before .before .before .before .before .before .before .before .run .ensures in
     let left =
-    run-rest (args .program .now) (args .memory .now) (args .registers .now) (args .state .now) (args .requests .now) (c .before .before .before .before .before .before .before .before .before .before .before .before .before .before .before .before .before .before .before .before .before .before .before .before .before .legal .ensures) (c .before .before .before .before .before .before .before .before .before .before .before .before .before .before .before .before .before .before .before .before .before .before .before .before .if1 .left) (c .before .before .before .before .before .before .before .before .before .before .before .before .before .before .before .before .before .before .before .before .before .before .before .if2 .left)
-    (c .before .before .before .before .before .before .before .before .before .before .before .before .before .before .before .before .before .before .before .before .before .take-registers .ensures) (called .0) (called .1) in
-    (c .answer-of .ensures ∙ of-answer left, (of-memory left, (c .before .before .before .before .give-registers .ensures ∙ of-registers left, of-state left)))
+    run-rest (args .program .now) (args .memory .now) (args .registers .now) (args .state .now) (args .requests .now) (c .before .before .before .before .before .before .before .before .before .before .before .before .before .before .before .before .before .before .before .before .legal .ensures) (c .before .before .before .before .before .before .before .before .before .before .before .before .before .before .before .before .before .before .before .if1 .left) (c .before .before .before .before .before .before .before .before .before .before .before .before .before .before .before .before .before .before .if2 .left)
+    (c .before .before .before .before .before .before .before .before .before .before .before .before .before .before .before .before .take-registers .ensures) (c .before .before .before .before .before .before .before .before .before .before .before .before .before .before .micro-state .ensures) (called .0) (called .1) in
+    (c .answer-of .ensures ∙ of-answer left, (of-memory left, (c .before .before .before .before .give-registers .ensures ∙ of-registers left, c .before .state-words .ensures ∙ of-state left)))
 
 pub avm-run-spec : {M : Type 1} → statement M
 avm-run-spec =
@@ -49,13 +49,8 @@ avm-run-spec =
     (λ c κs. search needs)
     returns-2
     (λ c κs. search needs)
-    (λ c. search needs)
-    (λ c. search needs)
-    (λ c. search needs)
-    (λ c. search needs)
-    (λ c. search needs)
-    (λ c. search needs)
-    (λ c. search needs)
+    (λ c κs. search needs)
+    (λ c κs. search needs)
     (λ c κs. search needs)
     (λ c κs. search needs)
     (λ c κs. search needs)
