@@ -4,7 +4,6 @@ use Rattle.answers.specs.declared.End.{End}
 use Rattle.answers.specs.declared.End.the-variants.{Done, MemoryLength, RegisterZero, ProgramLength, Microword, Outside, Request, NextAddress}
 use Rattle.answers.specs.declared.Numbered.{Numbered}
 use Rattle.answers.specs.Ends.{shown}
-use Prim.Native.Nat.{ℕ}
 use mathlib.Core.Bool.{cond}
 use lib.Dec.{eqb}
 

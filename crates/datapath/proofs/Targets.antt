@@ -9,7 +9,6 @@ use Rattle.words.specs.Registers.{update-reg, ssp-reg}
 use Rattle.words.proofs.RegisterRule.{zero-register}
 use Rattle.microwords.specs.declared.microword.Microword.{Microword}
 use Rattle.microwords.specs.Codes.{to-reg-file, to-ssp}
-use Rattle.blocks.specs.declared.memory.Store.{Store}
 use Rattle.blocks.specs.declared.memory.Store.the-variants.{Nothing, Word}
 use Rattle.blocks.specs.Memory.{fetch}
 use Rattle.datapath.specs.Results.{target-register, new-reg, new-mbr, new-store}

@@ -10,11 +10,11 @@ use Rattle.words.proofs.Cases.{turned, upright}
 use Rattle.answers.specs.Ends.{is-done}
 use Rattle.phase_level.specs.declared.machine.PhaseState.{PhaseState}
 use Rattle.phase_level.specs.declared.call.PhaseAnswer.{PhaseAnswer}
-use Rattle.phase_level.specs.Call.{PhaseCalled, phase-call}
+use Rattle.phase_level.specs.Call.{phase-call}
 use Rattle.phase_level.proofs.PhaseCalls.{as-lent}
 use Rattle.micro_level.specs.declared.machine.MicroState.{MicroState}
 use Rattle.micro_level.specs.declared.run.MicroAnswer.{MicroAnswer}
-use Rattle.micro_level.specs.Run.{MicroCalled, run}
+use Rattle.micro_level.specs.Run.{run}
 use Rattle.grader.specs.Answers.{refused}
 use Rattle.grader.specs.Calls.{register-count, micro-state, run-left, run-untouched, avm-run, phase-state, phase-left, phase-untouched, uncounted, avm-phase}
 

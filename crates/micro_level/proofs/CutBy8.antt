@@ -1,10 +1,10 @@
 -- A call that answers 8 after k microcycles is the call over its first k bytes, but for the PSW when k is 0: the shorter call drops its
 -- other bits, the cut one gives it back as lent.
-use Prim.Native.Nat.{ℕ, _+_}
+use Prim.Native.Nat.{ℕ}
 use native.Mathlib.Nat.{zero-add}
 use native.Mathlib.Omega.{arith}
 use mathlib.Core.Path.{_≡_, refl, sym, ap, subst, _∙_}
-use mathlib.Core.Bool.{Bool, true, false, not, cond, _&&_}
+use mathlib.Core.Bool.{Bool, true, false, cond}
 use mathlib.Core.List.{List}
 use lib.Dec.{eqb, ltb}
 use lib.ListN.{length, take}
@@ -21,7 +21,7 @@ use Rattle.phase_level.specs.Tests.{machine-test}
 use Rattle.micro_level.specs.declared.machine.MicroState.{MicroState}
 use Rattle.micro_level.specs.Machine.{taken, given}
 use Rattle.micro_level.specs.Run.{RanOn, MicroCalled, bad-request, micro-test, run-on, answered, micro-refused, run}
-use Rattle.micro_level.proofs.RunJoins.{as-done, cut, unmoved}
+use Rattle.micro_level.proofs.RunJoins.{cut, unmoved}
 use Rattle.micro_level.proofs.RunTests.{Fine, fine}
 use Rattle.micro_level.proofs.RunsInARow.{as-run}
 

@@ -1,7 +1,7 @@
 -- Two runs in a row are one run over both lists: the second goes on where the first ended, and the counts are added. Number 8 of the second
 -- is included. Then a run that 8 cut short is the run over the requests before the one that was refused.
-use Prim.Native.Nat.{ℕ, zero, suc, _+_, _≤_}
-use native.Mathlib.Nat.{add-zero, add-assoc}
+use Prim.Native.Nat.{ℕ, zero, suc, _+_}
+use native.Mathlib.Nat.{add-assoc}
 use native.Mathlib.Omega.{arith}
 use mathlib.Core.Path.{_≡_, refl, sym, ap, subst, _∙_}
 use mathlib.Core.Bool.{Bool, true, false, false≢true}

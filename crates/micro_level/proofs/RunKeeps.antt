@@ -1,14 +1,12 @@
 -- What a run keeps, whatever it is lent and however it ends: memory's length, the count of registers and register 0, MPC inside the
 -- microprogram, six PSW bits; and its returns are at most its microcycles.
-use Prim.Native.Nat.{ℕ, _+_, _<_, _≤_}
+use Prim.Native.Nat.{ℕ, _<_, _≤_}
 use native.Mathlib.Omega.{arith}
-use mathlib.Core.Path.{_≡_, refl, sym, ap, subst, _∙_}
+use mathlib.Core.Path.{_≡_, refl, subst, _∙_}
 use mathlib.Core.Bool.{Bool, true, false, cond}
 use mathlib.Core.List.{List}
-use lib.Dec.{leb}
 use lib.ListN.{length}
 use borrow.Author.Tests.{leb-false}
-use Rattle.words.specs.Fields.{dest}
 use Rattle.words.specs.Registers.{register}
 use Rattle.words.proofs.FlagNumbers.{num-le}
 use Rattle.words.proofs.RegisterRule.{length-kept, zero-kept}
@@ -19,8 +17,8 @@ use Rattle.datapath.proofs.Targets.{by-the-rule}
 use Rattle.micro_level.specs.declared.machine.MicroState.{MicroState}
 use Rattle.microcycle.specs.declared.MicroMachine.{MicroMachine}
 use Rattle.micro_level.specs.Machine.{taken, given}
-use Rattle.microcycle.specs.Microcycle.{word-of, microcycle, micro-store, leaves, next-address}
-use Rattle.micro_level.specs.Run.{RanOn, MicroCalled, at-fetch, micro-test, run-on, untouched, answered, micro-refused, run}
+use Rattle.microcycle.specs.Microcycle.{microcycle, micro-store, leaves, next-address}
+use Rattle.micro_level.specs.Run.{MicroCalled, at-fetch, micro-test, run-on, untouched, answered, micro-refused, run}
 use Rattle.micro_level.proofs.RunInduction.{kept-through}
 
 -- ---- one microcycle

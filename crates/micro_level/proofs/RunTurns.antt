@@ -1,9 +1,9 @@
 -- A run at the requests from the i-th on: one microcycle more, a refusal, the end. The premises are what a call of the microcycle ensures.
 use Prim.Native.Nat.{ℕ, _+_, _<_}
 use native.Mathlib.Numerals.{add-one}
-use mathlib.Core.Path.{_≡_, refl, sym, ap, _∙_}
+use mathlib.Core.Path.{_≡_, sym, ap, _∙_}
 use mathlib.Core.Bool.{true, false}
-use mathlib.Core.List.{List, [], _∷_}
+use mathlib.Core.List.{List}
 use lib.ListN.{length, getD, drop}
 use lib.Seq.{drop-cons, drop-length}
 use mir.Val.{boolByte as num}
@@ -12,7 +12,7 @@ use Rattle.blocks.specs.Memory.{applied}
 use Rattle.microcycle.specs.declared.MicroMachine.{MicroMachine}
 use Rattle.microcycle.specs.declared.Cycled.{Cycled}
 use Rattle.microcycle.specs.Microcycle.{microcycle, micro-store, leaves, cycled, cycled-memory}
-use Rattle.micro_level.specs.Run.{RanOn, at-fetch, ended, run-on}
+use Rattle.micro_level.specs.Run.{at-fetch, ended, run-on}
 
 module _ (program mem : List ℕ) (s : MicroMachine) (done returns : ℕ) (requests : List ℕ) (i : ℕ) (h : i < length requests)
     {out : Cycled} {after : List ℕ} (e : out ≡ cycled program mem s (getD requests i 0)) (f : after ≡ cycled-memory program mem s (getD requests i 0)) where

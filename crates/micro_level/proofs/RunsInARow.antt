@@ -1,31 +1,28 @@
 -- Two calls in a row, as calls: for a PSW of six bits, where the first is done and every byte of the second list is in range, the run over
--- both lists is the second run from where the first ended, counts added, 8 included. And a call that 8 cut short after k microcycles is
--- the call over its first k bytes, but for the PSW when k is 0: that call drops the other bits, the cut one gives them back.
-use Prim.Native.Nat.{ℕ, _+_, _<_, _%_}
+-- both lists is the second run from where the first ended, counts added, 8 included. Six bits are needed where neither call does a
+-- microcycle: the first then drops the PSW's other bits, and 8 would give them back.
+use Prim.Native.Nat.{ℕ, _+_, _<_}
 use native.Mathlib.Nat.{add-zero, mod-eq-of-lt}
 use native.Mathlib.Omega.{arith}
 use mathlib.Core.Path.{_≡_, refl, sym, ap, subst, _∙_}
 use mathlib.Core.Bool.{Bool, true, false, not, cond, _&&_, false≢true}
 use mathlib.Core.List.{List, _++_}
 use lib.Dec.{eqb}
-use lib.ListN.{length, take}
+use lib.ListN.{length}
 use borrow.Author.Tests.{eqb-true, eqb-false}
 use Rattle.words.specs.Registers.{register}
 use Rattle.status.specs.declared.psw.Psw.{Psw}
-use Rattle.status.specs.Psw.{mk-psw, get-psw}
 use Rattle.status.proofs.PswNumbers.{dropped, restored}
-use Rattle.answers.specs.declared.End.{End}
-use Rattle.answers.specs.declared.End.the-variants.{Done}
 use Rattle.answers.specs.Ends.{is-done}
 use Rattle.answers.specs.Places.{first-place}
-use Rattle.answers.proofs.FirstPlace.{none-in-join, none-in-front}
+use Rattle.answers.proofs.FirstPlace.{none-in-join}
 use Rattle.phase_level.specs.Tests.{machine-test}
 use Rattle.micro_level.specs.declared.machine.MicroState.{MicroState}
 use Rattle.microcycle.specs.declared.MicroMachine.{MicroMachine}
 use Rattle.micro_level.specs.Machine.{taken, given}
 use Rattle.micro_level.specs.Run.{RanOn, MicroCalled, bad-request, micro-test, run-on, untouched, answered, micro-refused, run}
 use Rattle.micro_level.proofs.RunKeeps.{memory-length, register-0, mpc-inside}
-use Rattle.micro_level.proofs.RunJoins.{on-from, joined, counted, counts-added, as-done, cut, unmoved}
+use Rattle.micro_level.proofs.RunJoins.{joined, counted, counts-added, unmoved}
 use Rattle.micro_level.proofs.RunTests.{Fine, fine, fine-done}
 
 -- six bits are given back as they were taken

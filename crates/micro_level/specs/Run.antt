@@ -9,8 +9,6 @@ use mir.Val.{boolByte as num}
 use Rattle.words.specs.Registers.{register}
 use Rattle.answers.specs.declared.End.{End}
 use Rattle.answers.specs.declared.End.the-variants.{Done, Outside, Request, NextAddress}
-use Rattle.answers.specs.declared.Microcycles.{Microcycles}
-use Rattle.answers.specs.declared.Steps.{Steps}
 use Rattle.answers.specs.Ends.{is-done}
 use Rattle.answers.specs.Places.{first-place}
 use Rattle.microwords.specs.Sequencer.{fetch-address}

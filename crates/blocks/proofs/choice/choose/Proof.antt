@@ -1,5 +1,4 @@
 -- The branch is the definition's.
-use mathlib.Core.Path.{_≡_}
 use Rattle.blocks.proofs.choice.choose.Statement.{statement}
 use Rattle.blocks.proofs.choice.choose.Tie as tie
 

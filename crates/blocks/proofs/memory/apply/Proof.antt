@@ -1,6 +1,6 @@
 -- Modulo the length, an index is below it unless the memory has no words.
 use borrow.Author.Needs.{needs, scaled-fits}
-use Prim.Native.Nat.{ℕ, _<_}
+use Prim.Native.Nat.{_<_}
 use native.Mathlib.Nat.{mod-lt}
 use native.Mathlib.Omega.{arith}
 use mathlib.Core.Path.{sym, ap}

@@ -1,6 +1,6 @@
 -- One call of the register rule, for the register that the target names.
 use borrow.Author.Needs.{needs}
-use mathlib.Core.Path.{_≡_, ap, _∙_}
+use mathlib.Core.Path.{ap, _∙_}
 use Prim.Native.Nat.{ℕ}
 use Rattle.words.specs.Registers.{update-reg}
 use Rattle.datapath.proofs.Targets.{by-the-rule}

@@ -1,6 +1,6 @@
 -- Each end is a case of the definition; an answer and a memory are the two parts of what was called.
 use borrow.Author.Needs.{needs}
-use mathlib.Core.Path.{_≡_, sym, ap}
+use mathlib.Core.Path.{sym, ap}
 use Rattle.phase_level.specs.Call.{PhaseCalled}
 use Rattle.phase_level.proofs.PhaseCalls.{test-refused, left, went}
 use Rattle.phase_level.proofs.call.phase.Statement.{statement}

@@ -1,7 +1,6 @@
 -- Phase four alone stores.
 use borrow.Author.Needs.{needs}
 use borrow.Author.Tests.{eq-eqb, ne-eqb}
-use mathlib.Core.Path.{sym, _∙_}
 use Rattle.phase_level.specs.Call.{stores}
 use Rattle.phase_level.proofs.call.stores.Statement.{statement}
 use Rattle.phase_level.proofs.call.stores.Tie as tie

@@ -1,6 +1,6 @@
 -- The tests are the definition's, in its order.
 use borrow.Author.Needs.{needs}
-use mathlib.Core.Path.{sym, _∙_}
+use mathlib.Core.Path.{sym}
 use Rattle.phase_level.proofs.TestsInOrder.{lent-refused, mir-refused, outside, request-refused, nothing-refused}
 use Rattle.phase_level.proofs.call.tested.Statement.{statement}
 use Rattle.phase_level.proofs.call.tested.Tie as tie
