@@ -1,6 +1,8 @@
-# Each must-fail edit was refused because a fact fails: the first error of its log is about a proof, and not about a name, a field, a
-# missing need, the text's form, a loop's variables or a rewriting that found nothing to rewrite, which would only show that the edit made the proof file
-# unfit for the code.
+# Each must-fail edit was refused because a fact fails: the first error of its log is about a proof, and not about the compiler, a name, a
+# field, a missing need, a loop's variables, the text's form or a rewriting that found nothing to rewrite, which would only show that the
+# edit made the proof file unfit for the code.
+other='error\[|named from here|not in scope|has no field|no record|projects from a record|was not admitted|Parse'
+other+='|error: `(Inv|μ)-|expected type `tie\.|no occurrence|has an instance|no part of the goal'
 passed=0 failed=0
 for edit in crates/*/must-fail/*.edit; do
     crate=$(cut -d/ -f2 <<<"$edit")
@@ -10,7 +12,7 @@ for edit in crates/*/must-fail/*.edit; do
     if [ -z "$first" ]; then
         echo "edits: $edit has no log with an error; run rt ci first"
         failed=$((failed + 1))
-    elif grep -qE 'error\[|error: `(Inv|μ)-|named from here|not in scope|has no field|projects from a record|expected type `tie\.|was not admitted|Parse|no record|no occurrence|has an instance|no part of the goal' <<<"$first"; then
+    elif grep -qE "$other" <<<"$first"; then
         echo "edits: $edit is refused by something other than a fact: $first"
         failed=$((failed + 1))
     else

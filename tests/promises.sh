@@ -1,5 +1,5 @@
 # docs/PROMISES.md can't go stale: each `crate/path#name` and each .edit in it exists, and every public function and every must-fail edit
-# of the crates is in it, each function with at least two edits on its row. A public function has an `ensures` and no `requires`.
+# of the crates is in it, each function with at least two edits in its item. A public function has an `ensures` and no `requires`.
 page=docs/PROMISES.md
 passed=0 failed=0
 
@@ -25,11 +25,11 @@ for edit in crates/*/must-fail/*.edit; do
     if grep -qxF "${edit#crates/}" <<<"$cited"; then passed=$((passed + 1)); else fail "$edit is not on the page"; fi
 done
 
-# a public function of a library: its row starts with its name and has two edits or more; its head runs up to the body's brace
+# a public function of a library: its item starts with its name and has two edits or more; its head runs up to the body's brace
 while IFS=: read -r file number line; do
     name=$(sed -E 's/.*fn ([a-z_0-9]+).*/\1/' <<<"$line")
-    row=$(grep -F "| \`${file#crates/}#$name\` |" "$page")
-    edits=$(grep -o '\.edit`' <<<"$row" | wc -l)
+    item=$(awk -v start="- \`${file#crates/}#$name\`:" 'index($0, start) == 1 { on = 1; print; next } on && /^  / { print; next } { on = 0 }' "$page")
+    edits=$(grep -o '\.edit`' <<<"$item" | wc -l)
     head=$(tail -n "+$number" "$file" | sed -n '1,/^ *{$/p')
     if grep -q '^ *ensures' <<<"$head" && ! grep -q '^ *requires' <<<"$head"; then
         passed=$((passed + 1))

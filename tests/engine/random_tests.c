@@ -5,11 +5,6 @@
 static struct inputs drawn, own;
 static uint64_t seen[AVM_LEFT_PROGRAM + 1]; /* answers by number */
 
-static enum side side_of(uint64_t number)
-{
-    return number % 2 == 0 ? AT_END : AT_START;
-}
-
 static void forget_answers(void)
 {
     size_t number;
@@ -34,54 +29,70 @@ static void compare_answers(avm_answer got, avm_answer want)
         seen[want.number]++;
 }
 
-/* Runs the drawn inputs on both; answers the microcycles done. */
-static uint64_t compare_run(enum side side)
+/* Compares the drawn inputs on both, lent on a side; answers how much was compared. */
+typedef uint64_t one_case(struct dice *dice, enum side side);
+
+static uint64_t compare_cases(uint64_t seed, uint64_t cases, one_case *compare)
 {
-    struct places lent = lend(&drawn, side), mine;
-    avm_answer want;
+    uint64_t number, compared = 0;
+
+    forget_answers();
+    for (number = 0; number < rounds(cases) && holds_so_far(); number++) {
+        struct dice dice = dice_for(seed, number);
+
+        stand_at(seed, number);
+        draw_inputs(&dice, &drawn);
+        compared += compare(&dice, number % 2 == 0 ? AT_END : AT_START);
+    }
+    return compared;
+}
+
+/* The drawn inputs, lent to the engine and in a copy of one's own. */
+struct both {
+    struct places lent, mine;
+};
+
+static struct both lend_both(enum side side)
+{
+    struct both both;
 
     own = drawn;
-    mine = places_in(&own);
-    want = call_run(&simulator, &mine);
-    compare_answers(call_run(&engine, &lent), want);
-    expect_same_places("engine", &lent, &mine);
+    both.mine = places_in(&own);
+    both.lent = lend(&drawn, side);
+    return both;
+}
+
+static uint64_t run_case(struct dice *dice, enum side side)
+{
+    struct both both = lend_both(side);
+    avm_answer want = call_run(&simulator, &both.mine);
+
+    (void)dice;
+    compare_answers(call_run(&engine, &both.lent), want);
+    expect_same_places("engine", &both.lent, &both.mine);
     expect_nothing_beyond("engine");
     return want.microcycles.count;
 }
 
 static void random_runs(void)
 {
-    enum { SEED = 1990, CASES = 700 };
-    uint64_t number, microcycles = 0;
+    uint64_t microcycles = compare_cases(1990, 700, run_case);
 
-    forget_answers();
-    for (number = 0; number < rounds(CASES) && holds_so_far(); number++) {
-        struct dice dice = dice_for(SEED, number);
-
-        stand_at(SEED, number);
-        draw_inputs(&dice, &drawn);
-        microcycles += compare_run(side_of(number));
-    }
     expect_seen(AVM_DONE, AVM_DONE);
     expect_seen(AVM_LEFT_PROGRAM, AVM_LEFT_PROGRAM);
     expect(microcycles >= 1000000 || !holds_so_far(), "only %llu microcycles were compared", (unsigned long long)microcycles);
     remark(" (%llu microcycles)", (unsigned long long)microcycles);
 }
 
+static uint64_t damaged_run_case(struct dice *dice, enum side side)
+{
+    draw_damage(dice, &drawn);
+    return run_case(dice, side);
+}
+
 static void random_damaged_runs(void)
 {
-    enum { SEED = 5, CASES = 2000 };
-    uint64_t number;
-
-    forget_answers();
-    for (number = 0; number < rounds(CASES) && holds_so_far(); number++) {
-        struct dice dice = dice_for(SEED, number);
-
-        stand_at(SEED, number);
-        draw_inputs(&dice, &drawn);
-        draw_damage(&dice, &drawn);
-        compare_run(side_of(number));
-    }
+    compare_cases(5, 2000, damaged_run_case);
     expect_seen(AVM_DONE, AVM_LEFT_PROGRAM);
 }
 
@@ -132,53 +143,44 @@ static void change_both(struct dice *dice, const struct places *lent, const stru
     apply(&change, mine);
 }
 
-static void random_phases(void)
+static uint64_t phases_case(struct dice *dice, enum side side)
 {
-    enum { SEED = 110, CASES = 200, CALLS = 1000 };
-    uint64_t number, calls = 0;
+    enum { CALLS = 1000 };
+    struct both both = lend_both(side);
     unsigned call;
 
-    forget_answers();
-    for (number = 0; number < rounds(CASES) && holds_so_far(); number++) {
-        struct dice dice = dice_for(SEED, number);
-        struct places lent, mine;
-
-        stand_at(SEED, number);
-        draw_inputs(&dice, &drawn);
-        own = drawn;
-        mine = places_in(&own);
-        lent = lend(&drawn, side_of(number));
-        for (call = 0; call < CALLS && holds_so_far(); call++, calls++) {
-            if (dice_chance(&dice, 5))
-                change_both(&dice, &lent, &mine);
-            compare_phase(&lent, &mine, (uint8_t)dice_below(&dice, 4));
-        }
-        expect_nothing_beyond("engine");
+    for (call = 0; call < CALLS && holds_so_far(); call++) {
+        if (dice_chance(dice, 5))
+            change_both(dice, &both.lent, &both.mine);
+        compare_phase(&both.lent, &both.mine, (uint8_t)dice_below(dice, 4));
     }
+    expect_nothing_beyond("engine");
+    return call;
+}
+
+static void random_phases(void)
+{
+    uint64_t calls = compare_cases(110, 200, phases_case);
+
     expect_seen(AVM_DONE, AVM_DONE);
     expect_seen(AVM_LEFT_PROGRAM, AVM_LEFT_PROGRAM);
     remark(" (%llu calls)", (unsigned long long)calls);
 }
 
+static uint64_t damaged_phase_case(struct dice *dice, enum side side)
+{
+    struct both both;
+
+    draw_damage(dice, &drawn);
+    both = lend_both(side);
+    compare_phase(&both.lent, &both.mine, (uint8_t)(dice_chance(dice, 20) ? dice_below(dice, 256) : dice_below(dice, 4)));
+    expect_nothing_beyond("engine");
+    return 1;
+}
+
 static void random_damaged_phases(void)
 {
-    enum { SEED = 114, CASES = 3000 };
-    uint64_t number;
-
-    forget_answers();
-    for (number = 0; number < rounds(CASES) && holds_so_far(); number++) {
-        struct dice dice = dice_for(SEED, number);
-        struct places lent, mine;
-
-        stand_at(SEED, number);
-        draw_inputs(&dice, &drawn);
-        draw_damage(&dice, &drawn);
-        own = drawn;
-        mine = places_in(&own);
-        lent = lend(&drawn, side_of(number));
-        compare_phase(&lent, &mine, (uint8_t)(dice_chance(&dice, 20) ? dice_below(&dice, 256) : dice_below(&dice, 4)));
-        expect_nothing_beyond("engine");
-    }
+    compare_cases(114, 3000, damaged_phase_case);
     expect_seen(AVM_DONE, AVM_LEFT_PROGRAM);
 }
 
@@ -204,42 +206,36 @@ static void expect_three_phases(const struct places *lent)
 /* The request byte of the first phase is the run's; those of the others are free. */
 static void compare_microcycle(struct dice *dice, enum side side)
 {
-    struct places lent = lend(&drawn, side), mine;
-    avm_answer of_run, of_phase;
+    struct both both = lend_both(side);
+    avm_answer of_run = call_run(&engine, &both.mine), of_phase;
     unsigned phase;
 
-    own = drawn;
-    mine = places_in(&own);
-    of_run = call_run(&engine, &mine);
     for (phase = 0; phase < 4; phase++) {
-        of_phase = call_phase(&engine, &lent, phase == 0 ? drawn.requests[0] : (uint8_t)dice_below(dice, 4));
+        of_phase = call_phase(&engine, &both.lent, phase == 0 ? drawn.requests[0] : (uint8_t)dice_below(dice, 4));
         expect(phase == 3 || of_phase.number == AVM_DONE, "phase %u answers %llu", phase, (unsigned long long)of_phase.number);
     }
     expect_same_answer("the fourth phase call", of_phase, refused(of_run.number, 0));
     if (of_run.number == AVM_DONE) {
-        mine.latches = lent.latches;
-        mine.mir = lent.mir;
-        expect_same_places("four phase calls", &lent, &mine);
+        both.mine.latches = both.lent.latches;
+        both.mine.mir = both.lent.mir;
+        expect_same_places("four phase calls", &both.lent, &both.mine);
     } else {
-        expect_three_phases(&lent);
+        expect_three_phases(&both.lent);
     }
+}
+
+static uint64_t microcycle_case(struct dice *dice, enum side side)
+{
+    drawn.phase = 0;
+    drawn.bytes = 1;
+    drawn.requests[0] = (uint8_t)dice_below(dice, 4);
+    compare_microcycle(dice, side);
+    return 1;
 }
 
 static void four_phases_are_a_microcycle(void)
 {
-    enum { SEED = 137, CASES = 3000 };
-    uint64_t number;
-
-    for (number = 0; number < rounds(CASES) && holds_so_far(); number++) {
-        struct dice dice = dice_for(SEED, number);
-
-        stand_at(SEED, number);
-        draw_inputs(&dice, &drawn);
-        drawn.phase = 0;
-        drawn.bytes = 1;
-        drawn.requests[0] = (uint8_t)dice_below(&dice, 4);
-        compare_microcycle(&dice, side_of(number));
-    }
+    compare_cases(137, 3000, microcycle_case);
 }
 
 const struct test random_tests[] = {

@@ -1,4 +1,4 @@
--- Where the result goes (phase four, figures 5.9 and 5.10, pp. 113-114): each part of the state after a microcycle, from its parts before
+-- Where the result goes (phases three and four, from p. 110, figures 5.9 and 5.10, pp. 113-114): each part of the state after a microcycle, from its parts before
 -- it. The old PSW decides: for the register rule, the jump and the next address. Assumes nothing.
 use Prim.Native.Nat.{ℕ}
 use mathlib.Core.Bool.{Bool, true, cond, not, _&&_, _||_}
@@ -54,6 +54,10 @@ new-pc trgt dest psw result pc = cond (eqb trgt to-pc || (eqb trgt to-pcj && jum
 
 unfoldable pub new-mbr : List ℕ → Microword → ℕ → ℕ → ℕ → ℕ
 new-mbr mem m mar result mbr = cond (m .rd) (fetch mem mar) (cond (m .mbr) result mbr)
+
+-- phase three's load of MAR, from PC (pp. 110-112): memory is used with it in the same microcycle
+abbrev pub mar-from-pc : Microword → ℕ → ℕ → ℕ
+mar-from-pc m pc mar = cond (m .pmux && m .mar) pc mar
 
 -- phase four's own load of MAR, from the result
 unfoldable pub new-mar : Microword → ℕ → ℕ → ℕ

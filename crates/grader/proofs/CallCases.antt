@@ -15,54 +15,65 @@ use Rattle.phase_level.proofs.PhaseCalls.{as-lent}
 use Rattle.micro_level.specs.declared.machine.MicroState.{MicroState}
 use Rattle.micro_level.specs.declared.run.MicroAnswer.{MicroAnswer}
 use Rattle.micro_level.specs.Run.{run}
-use Rattle.grader.specs.Answers.{refused}
-use Rattle.grader.specs.Calls.{register-count, micro-state, run-left, run-untouched, avm-run, phase-state, phase-left, phase-untouched, uncounted, avm-phase}
+use Rattle.grader.specs.declared.Answer.{Answer}
+use Rattle.grader.specs.Answers.{refused, answered}
+use Rattle.grader.specs.Calls.{register-count, micro-state, state-words, run-found, avm-run}
+use Rattle.grader.specs.Calls.{phase-state, phase-words, latch-words, phase-found, uncounted, avm-phase}
 
 module _ (program mem registers state requests : List ℕ) {legal : Bool} (l : legal ≡ legal-length (length mem)) where
-  pub run-1 : not legal ≡ true → avm-run program mem registers state requests ≡ run-untouched 1 mem registers state
+  pub run-1 : not legal ≡ true → {shown : Answer} → shown ≡ refused 1
+      → run-found shown mem registers state ≡ avm-run program mem registers state requests
   unfolding avm-run
-  run-1 h = rw (← l, turned legal h)
+  run-1 h a = rw (a, ← l, turned legal h)
 
   module _ (h : not legal ≡ false) where
-    pub run-2 : (length registers ≡ register-count → ⊥) → avm-run program mem registers state requests ≡ run-untouched 2 mem registers state
+    pub run-2 : (length registers ≡ register-count → ⊥) → {shown : Answer} → shown ≡ refused 2
+        → run-found shown mem registers state ≡ avm-run program mem registers state requests
     unfolding avm-run
-    run-2 n = rw (← l, upright legal h, ne-eqb (length registers) register-count n)
+    run-2 n a = rw (a, ← l, upright legal h, ne-eqb (length registers) register-count n)
 
-    pub run-rest : length registers ≡ register-count → {file : List ℕ} {lent : MicroState} {answer : MicroAnswer} {after : List ℕ}
-        → file ≡ registers → lent ≡ micro-state file state → answer ≡ run program mem lent requests .answer → after ≡ run program mem lent requests .memory
-        → avm-run program mem registers state requests ≡ run-left (record { answer = answer; memory = after })
+    pub run-rest : length registers ≡ register-count
+        → {file : List ℕ} {lent : MicroState} {answer : MicroAnswer} {after registers′ state′ : List ℕ} {shown : Answer}
+        → file ≡ registers → lent ≡ micro-state file state → answer ≡ run program mem lent requests .answer
+        → after ≡ run program mem lent requests .memory → registers′ ≡ answer .state .registers → state′ ≡ state-words (answer .state)
+        → shown ≡ answered (answer .end) (answer .microcycles) (answer .steps)
+        → run-found shown after registers′ state′ ≡ avm-run program mem registers state requests
     unfolding avm-run
-    run-rest n f t a m = rw (a, m, t, f, ← l, upright legal h, eq-eqb (length registers) register-count n)
+    run-rest n f t a m r w o = rw (o, w, r, a, m, t, f, ← l, upright legal h, eq-eqb (length registers) register-count n)
 
 module _ (program mem registers state latches : List ℕ) (mir phase request : ℕ) {legal : Bool} (l : legal ≡ legal-length (length mem)) where
-  pub phase-1 : not legal ≡ true
-      → avm-phase program mem registers state latches mir phase request ≡ phase-untouched (refused 1) mem registers state latches mir phase
+  pub phase-1 : not legal ≡ true → {shown : Answer} → shown ≡ refused 1
+      → phase-found shown mem registers state latches mir phase ≡ avm-phase program mem registers state latches mir phase request
   unfolding avm-phase
-  phase-1 h = rw (← l, turned legal h)
+  phase-1 h a = rw (a, ← l, turned legal h)
 
   module _ (h : not legal ≡ false) where
-    pub phase-2 : (length registers ≡ register-count → ⊥)
-        → avm-phase program mem registers state latches mir phase request ≡ phase-untouched (refused 2) mem registers state latches mir phase
+    pub phase-2 : (length registers ≡ register-count → ⊥) → {shown : Answer} → shown ≡ refused 2
+        → phase-found shown mem registers state latches mir phase ≡ avm-phase program mem registers state latches mir phase request
     unfolding avm-phase
-    phase-2 n = rw (← l, upright legal h, ne-eqb (length registers) register-count n)
+    phase-2 n a = rw (a, ← l, upright legal h, ne-eqb (length registers) register-count n)
 
-    module _ (n : length registers ≡ register-count) {file : List ℕ} {lent : PhaseState} {answer : PhaseAnswer} {after : List ℕ} {done : Bool}
+    module _ (n : length registers ≡ register-count)
+        {file : List ℕ} {lent : PhaseState} {answer : PhaseAnswer} {after : List ℕ} {done : Bool} {shown : Answer}
         (f : file ≡ registers) (t : lent ≡ phase-state file state latches mir phase) (a : answer ≡ phase-call program mem lent request .answer)
-        (m : after ≡ phase-call program mem lent request .memory) (d : done ≡ is-done (answer .end)) where
+        (m : after ≡ phase-call program mem lent request .memory) (d : done ≡ is-done (answer .end)) (o : shown ≡ uncounted (answer .end)) where
       the-lent : lent ≡ phase-state registers state latches mir phase
       the-lent = t ∙ ap (λ (reg : List ℕ). phase-state reg state latches mir phase) f
 
-      pub phase-went : not done ≡ false
-          → avm-phase program mem registers state latches mir phase request ≡ phase-left (record { answer = answer; memory = after })
-      unfolding avm-phase
-      phase-went g = rw (← l, upright legal h, eq-eqb (length registers) register-count n, ← the-lent, ← m, ← a, ← d, upright done g)
+      -- the library's call left memory as lent
+      memory-kept : not done ≡ true → after ≡ mem
+      memory-kept g = m ∙ as-lent program mem lent request (sym (ap (λ (r : PhaseAnswer). is-done (r .end)) a) ∙ sym d ∙ turned done g) .0
 
       pub phase-refused : not done ≡ true
-          → avm-phase program mem registers state latches mir phase request
-          ≡ phase-untouched (uncounted (answer .end)) mem registers state latches mir phase
+          → phase-found shown after registers state latches mir phase ≡ avm-phase program mem registers state latches mir phase request
       unfolding avm-phase
-      phase-refused g = rw (← l, upright legal h, eq-eqb (length registers) register-count n, ← the-lent, ← a, ← d, turned done g)
+      phase-refused g =
+          rw (o, memory-kept g, ← l, upright legal h, eq-eqb (length registers) register-count n, ← the-lent, ← a, ← d, turned done g)
 
-      -- the library's call left memory as lent
-      pub memory-kept : not done ≡ true → after ≡ mem
-      memory-kept g = m ∙ as-lent program mem lent request (sym (ap (λ (r : PhaseAnswer). is-done (r .end)) a) ∙ sym d ∙ turned done g) .0
+      pub phase-went : not done ≡ false → {registers′ state′ latches′ : List ℕ}
+          → registers′ ≡ answer .state .registers → state′ ≡ phase-words (answer .state) → latches′ ≡ latch-words (answer .state)
+          → phase-found shown after registers′ state′ latches′ (answer .state .mir) (answer .state .phase)
+          ≡ avm-phase program mem registers state latches mir phase request
+      unfolding avm-phase
+      phase-went g r w w′ =
+          rw (o, w′, w, r, ← l, upright legal h, eq-eqb (length registers) register-count n, ← the-lent, ← m, ← a, ← d, upright done g)

@@ -44,6 +44,10 @@ pub record RunLeft : Type 0 where
   pub registers : List ℕ
   pub state : List ℕ
 
+-- what is found after the call, place by place
+abbrev pub run-found : Answer → List ℕ → List ℕ → List ℕ → RunLeft
+run-found answer mem registers state = record { answer = answer; memory = mem; registers = registers; state = state }
+
 abbrev pub run-left : MicroCalled → RunLeft
 run-left called =
     record {
@@ -55,7 +59,7 @@ run-left called =
 
 -- a refusal of the call's own: everything as lent
 abbrev pub run-untouched : ℕ → List ℕ → List ℕ → List ℕ → RunLeft
-run-untouched number mem registers state = record { answer = refused number; memory = mem; registers = registers; state = state }
+run-untouched number mem registers state = run-found (refused number) mem registers state
 
 unfoldable pub avm-run : List ℕ → List ℕ → List ℕ → List ℕ → List ℕ → RunLeft
 avm-run program mem registers state requests =
@@ -102,9 +106,9 @@ pub record PhaseLeft : Type 0 where
   pub mir : ℕ
   pub phase : ℕ
 
--- a refusal, with everything as lent
-abbrev pub phase-untouched : Answer → List ℕ → List ℕ → List ℕ → List ℕ → ℕ → ℕ → PhaseLeft
-phase-untouched answer mem registers state latches mir phase =
+-- what is found after the call, place by place; after a refusal everything is as lent
+abbrev pub phase-found : Answer → List ℕ → List ℕ → List ℕ → List ℕ → ℕ → ℕ → PhaseLeft
+phase-found answer mem registers state latches mir phase =
     record { answer = answer; memory = mem; registers = registers; state = state; latches = latches; mir = mir; phase = phase }
 
 -- an end without counts
@@ -131,6 +135,6 @@ avm-phase program mem registers state latches mir phase request =
     (cond (eqb (length registers) register-count)
     (cond (is-done (called .answer .end))
     (phase-left called)
-    (phase-untouched (uncounted (called .answer .end)) mem registers state latches mir phase))
-    (phase-untouched (refused 2) mem registers state latches mir phase))
-    (phase-untouched (refused 1) mem registers state latches mir phase)
+    (phase-found (uncounted (called .answer .end)) mem registers state latches mir phase))
+    (phase-found (refused 2) mem registers state latches mir phase))
+    (phase-found (refused 1) mem registers state latches mir phase)

@@ -3,7 +3,8 @@
 ghost use mathlib.Core.Path.{_≡_};
 ghost use lib.ListN.{length};
 ghost use Rattle.grader.specs.Answers.{refused, answered};
-ghost use Rattle.grader.specs.Calls.{micro-state, state-words, avm-run, phase-state, phase-words, latch-words, avm-phase};
+ghost use Rattle.grader.specs.Calls.{micro-state, state-words, run-found, avm-run};
+ghost use Rattle.grader.specs.Calls.{phase-state, phase-words, latch-words, phase-found, avm-phase};
 use answers::End;
 use answers::Microcycles;
 use answers::Steps;
@@ -145,10 +146,9 @@ pub extern "C" fn avm_run(
     state: &mut [u32; 7],
     requests: &[u8],
 ) -> Answer
-    ensures { λ r. ⌜ r ≡ avm-run (now (program .entry)) (now (memory .entry)) (now (registers .entry)) (now (state .entry)) (now (requests .entry)) .answer ⌝ }
-    ensures { λ _. ⌜ now (memory .exit) ≡ avm-run (now (program .entry)) (now (memory .entry)) (now (registers .entry)) (now (state .entry)) (now (requests .entry)) .memory ⌝ }
-    ensures { λ _. ⌜ now (registers .exit) ≡ avm-run (now (program .entry)) (now (memory .entry)) (now (registers .entry)) (now (state .entry)) (now (requests .entry)) .registers ⌝ }
-    ensures { λ _. ⌜ now (state .exit) ≡ avm-run (now (program .entry)) (now (memory .entry)) (now (registers .entry)) (now (state .entry)) (now (requests .entry)) .state ⌝ }
+    ensures { λ r. ⌜ run-found r (now (memory .exit)) (now (registers .exit)) (now (state .exit))
+        ≡ avm-run (now (program .entry)) (now (memory .entry)) (now (registers .entry)) (now (state .entry))
+        (now (requests .entry)) ⌝ }
 {
     if !words::lengths::legal(memory.len()) {
         return refuse(1);
@@ -180,13 +180,10 @@ pub extern "C" fn avm_phase(
     phase: &mut u32,
     request: u8,
 ) -> Answer
-    ensures { λ r. ⌜ r ≡ avm-phase (now (program .entry)) (now (memory .entry)) (now (registers .entry)) (now (state .entry)) (now (latches .entry)) (now (mir .entry)) (now (phase .entry)) request .answer ⌝ }
-    ensures { λ _. ⌜ now (memory .exit) ≡ avm-phase (now (program .entry)) (now (memory .entry)) (now (registers .entry)) (now (state .entry)) (now (latches .entry)) (now (mir .entry)) (now (phase .entry)) request .memory ⌝ }
-    ensures { λ _. ⌜ now (registers .exit) ≡ avm-phase (now (program .entry)) (now (memory .entry)) (now (registers .entry)) (now (state .entry)) (now (latches .entry)) (now (mir .entry)) (now (phase .entry)) request .registers ⌝ }
-    ensures { λ _. ⌜ now (state .exit) ≡ avm-phase (now (program .entry)) (now (memory .entry)) (now (registers .entry)) (now (state .entry)) (now (latches .entry)) (now (mir .entry)) (now (phase .entry)) request .state ⌝ }
-    ensures { λ _. ⌜ now (latches .exit) ≡ avm-phase (now (program .entry)) (now (memory .entry)) (now (registers .entry)) (now (state .entry)) (now (latches .entry)) (now (mir .entry)) (now (phase .entry)) request .latches ⌝ }
-    ensures { λ _. ⌜ now (mir .exit) ≡ avm-phase (now (program .entry)) (now (memory .entry)) (now (registers .entry)) (now (state .entry)) (now (latches .entry)) (now (mir .entry)) (now (phase .entry)) request .mir ⌝ }
-    ensures { λ _. ⌜ now (phase .exit) ≡ avm-phase (now (program .entry)) (now (memory .entry)) (now (registers .entry)) (now (state .entry)) (now (latches .entry)) (now (mir .entry)) (now (phase .entry)) request .phase ⌝ }
+    ensures { λ r. ⌜ phase-found r (now (memory .exit)) (now (registers .exit)) (now (state .exit)) (now (latches .exit))
+        (now (mir .exit)) (now (phase .exit))
+        ≡ avm-phase (now (program .entry)) (now (memory .entry)) (now (registers .entry)) (now (state .entry))
+        (now (latches .entry)) (now (mir .entry)) (now (phase .entry)) request ⌝ }
 {
     if !words::lengths::legal(memory.len()) {
         return refuse(1);

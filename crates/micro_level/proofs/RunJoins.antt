@@ -93,7 +93,10 @@ pub cut : (program requests mem : List ℕ) (s : MicroMachine) (done returns j :
     → run-on program mem s done returns (take j requests) ≡ as-done (run-on program mem s done returns requests)
 unfolding run-on
 cut program [] mem s done returns j d e = absurd (false≢true (sym d))
-cut program (x ∷ xs) mem s done returns j d e = by-case (leaves program s x) refl j (λ (i : ℕ). cut program xs (applied (micro-store program s) mem) (microcycle program mem s x) (done + 1) (returns + num (at-fetch (microcycle program mem s x))) i) d e
+cut program (x ∷ xs) mem s done returns j d e =
+    by-case (leaves program s x) refl j
+    (λ (i : ℕ). cut program xs (applied (micro-store program s) mem) (microcycle program mem s x) (done + 1)
+    (returns + num (at-fetch (microcycle program mem s x))) i) d e
   where
     on : List ℕ → RanOn
     on rest =

@@ -2,7 +2,7 @@
 -- level's own definitions (FETCH, ISSUE, .., pp. 126-130) are instances of, word by word. The request is looked at where the next address
 -- is chosen. A microcycle whose next address is outside does nothing. Assumes nothing.
 use Prim.Native.Nat.{ℕ}
-use mathlib.Core.Bool.{Bool, cond, _&&_}
+use mathlib.Core.Bool.{Bool, cond}
 use mathlib.Core.List.{List}
 use lib.Dec.{leb}
 use lib.ListN.{length}
@@ -14,7 +14,7 @@ use Rattle.blocks.specs.declared.memory.Store.{Store}
 use Rattle.blocks.specs.Memory.{applied}
 use Rattle.blocks.specs.Sources.{a-bus, b-bus}
 use Rattle.datapath.specs.Operation.{a-input, operated}
-use Rattle.datapath.specs.Results.{new-psw, new-reg, new-mpc, new-ir, new-pc, new-mbr, new-mar, new-store}
+use Rattle.datapath.specs.Results.{new-psw, new-reg, new-mpc, new-ir, new-pc, new-mbr, mar-from-pc, new-mar, new-store}
 use Rattle.phases.specs.Phases.{interrupt, word-at}
 use Rattle.microcycle.specs.declared.MicroMachine.{MicroMachine}
 use Rattle.microcycle.specs.declared.Cycled.{Cycled}
@@ -23,9 +23,9 @@ use Rattle.microcycle.specs.declared.Cycled.{Cycled}
 abbrev pub word-of : List ℕ → MicroMachine → Microword
 word-of urom s = fields (word-at urom (s .mpc))
 
--- MAR as memory is used with it: from PC where MAR and PMUX are both set
+-- MAR as memory is used with it
 abbrev pub mar-used : List ℕ → MicroMachine → ℕ
-mar-used urom s = let m = word-of urom s in cond (m .pmux && m .mar) (s .pc) (s .mar)
+mar-used urom s = mar-from-pc (word-of urom s) (s .pc) (s .mar)
 
 unfoldable pub next-address : List ℕ → MicroMachine → ℕ → ℕ
 next-address urom s request = new-mpc (word-of urom s) (s .mpc) (s .ir) (interrupt request) (s .psw)

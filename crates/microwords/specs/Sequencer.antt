@@ -9,7 +9,8 @@ use Rattle.microwords.specs.Codes.{step, jmp, jop, jint, jsm}
 unfoldable pub add-bt6 : ℕ → ℕ → ℕ
 add-bt6 a n = (a + n) % 2 ^ 6
 
--- in the source's order: the counter, the opcode, the address field, the condition, the latched request, ie, sm
+-- in the source's order: the counter, the opcode, the address field, the condition, the latched request, ie, sm; the opcode is the five
+-- low bits already (`SND opc`)
 unfoldable pub mpc-unit : ℕ → ℕ → ℕ → ℕ → Bool → Bool → Bool → ℕ
 mpc-unit mpc opc addr code ireq ie sm =
     cond (eqb code step) (add-bt6 mpc 1)

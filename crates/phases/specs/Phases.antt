@@ -1,7 +1,7 @@
 -- The four phases (from p. 110): each takes the whole state and gives the whole state, new values by name, then the record. Memory stands
 -- apart: phase four reads it, and what it stores is a value of its own. `urom` is the control store. Assumes nothing.
 use Prim.Native.Nat.{ℕ}
-use mathlib.Core.Bool.{Bool, cond, _&&_}
+use mathlib.Core.Bool.{Bool}
 use mathlib.Core.List.{List}
 use lib.ListN.{getD}
 use Rattle.words.specs.Words.{bit}
@@ -10,8 +10,8 @@ use Rattle.status.specs.Psw.{mk-psw}
 use Rattle.microwords.specs.Microword.{fields}
 use Rattle.blocks.specs.declared.memory.Store.{Store}
 use Rattle.blocks.specs.Sources.{a-bus, b-bus}
-use Rattle.datapath.specs.Operation.{operated}
-use Rattle.datapath.specs.Results.{new-psw, new-reg, new-mpc, new-ir, new-pc, new-mbr, new-mar, new-store}
+use Rattle.datapath.specs.Operation.{a-input, operated}
+use Rattle.datapath.specs.Results.{new-psw, new-reg, new-mpc, new-ir, new-pc, new-mbr, mar-from-pc, new-mar, new-store}
 use Rattle.phases.specs.declared.PhaseMachine.{PhaseMachine}
 
 -- the interrupt line, bit 0 of what comes from outside; nothing reads bit 1, reset
@@ -71,7 +71,7 @@ phase-two s =
 unfoldable pub phase-three : PhaseMachine → PhaseMachine
 phase-three s =
     let m = fields (s .mir) in
-    let new-mar = cond (m .pmux && m .mar) (s .pc) (s .mar) in
+    let new-mar = mar-from-pc m (s .pc) (s .mar) in
     record {
       registers = s .registers;
       psw = s .psw;
@@ -101,8 +101,7 @@ phase-store s = new-store (fields (s .mir)) (s .mar) (s .mbr)
 unfoldable pub phase-four : List ℕ → PhaseMachine → PhaseMachine
 phase-four mem s =
     let m = fields (s .mir) in
-    let a-input = cond (m .amux) (s .mbr) (s .alatch) in
-    let out = operated m a-input (s .blatch) (s .psw .c) in
+    let out = operated m (a-input m (s .mbr) (s .alatch)) (s .blatch) (s .psw .c) in
     let result = out .value in
     record {
       registers = new-reg (m .trgt) (s .psw .sm) (dest (s .ir)) (s .registers) result;

@@ -7,16 +7,24 @@ use Rattle.microcycle.proofs.cycle.Tie as tie
 
 returns : tie.Need-returns
 returns c =
-    let args = c .before .before .before .before .before .before .before .before .args in
-    let out = left (args .program .now) (args .memory .now) (args .s) (args .request) (c .before .before .before .before .before .begun .ensures) (c .before .before .before .before .one .ensures) (c .before .before .before .two .ensures) (c .before .before .three .ensures) (c .before .next-address .ensures) (c .if1 .taken) in
+    let asked = c .before in
+    let args = asked .before .before .before .before .before .before .before .args in
+    let out =
+    left (args .program .now) (args .memory .now) (args .s) (args .request)
+    (asked .before .before .before .before .begun .ensures) (asked .before .before .before .one .ensures) (asked .before .before .two .ensures) (asked .before .three .ensures)
+    (asked .next-address .ensures) (c .if1 .taken) in
     (sym (out .0), sym (out .1))
 
 returns-2 : tie.Need-returns-2
 returns-2 c =
-    let args = c .before .before .before .before .before .before .before .before .before .before .before .before .before .before .before .before .args in
+    let applied = c .before .before .before in
+    let asked = applied .before .before .before .before .before .before in
+    let args = asked .before .before .before .before .before .before .before .args in
     let out =
-    went (args .program .now) (args .memory .now) (args .s) (args .request) (c .before .before .before .before .before .before .before .before .before .before .before .before .before .begun .ensures) (c .before .before .before .before .before .before .before .before .before .before .before .before .one .ensures) (c .before .before .before .before .before .before .before .before .before .before .before .two .ensures) (c .before .before .before .before .before .before .before .before .before .before .three .ensures) (c .before .before .before .before .before .before .before .before .before .next-address .ensures) (c .before .before .before .before .before .before .before .before .if1 .left)
-    (c .before .before .before .before .before .before .four .ensures) (c .before .before .before .before .store .ensures) (c .before .before .before .apply .ensures) (c .seen .ensures) in
+    went (args .program .now) (args .memory .now) (args .s) (args .request)
+    (asked .before .before .before .before .begun .ensures) (asked .before .before .before .one .ensures) (asked .before .before .two .ensures) (asked .before .three .ensures)
+    (asked .next-address .ensures) (applied .before .before .before .before .before .if1 .left)
+    (applied .before .before .before .four .ensures) (applied .before .store .ensures) (applied .apply .ensures) (c .seen .ensures) in
     (sym (out .0), sym (out .1))
 
 pub cycle-spec : {M : Type 1} → statement M

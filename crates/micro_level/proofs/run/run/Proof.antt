@@ -8,16 +8,21 @@ use Rattle.micro_level.proofs.run.run.Tie as tie
 
 returns : tie.Need-returns
 returns c =
-    let args = c .before .before .before .before .before .before .args in
-    let called = refused (args .program .now) (args .memory .now) (args .s) (args .requests .now) (c .before .before .tested .ensures) (c .before .done .ensures) (c .if1 .taken) in
+    let asked = c .before in
+    let tested = asked .before in
+    let args = tested .before .before .before .before .args in
+    let called = refused (args .program .now) (args .memory .now) (args .s) (args .requests .now) (tested .tested .ensures) (asked .done .ensures) (c .if1 .taken) in
     (sym (ap (λ (r : MicroCalled). r .answer) called), sym (ap (λ (r : MicroCalled). r .memory) called))
 
 returns-2 : tie.Need-returns-2
 returns-2 c =
-    let args = c .before .before .before .before .before .before .before .before .before .before .before .before .args in
+    let through = c .before .before .before in
+    let asked = through .before .before .before .before in
+    let tested = asked .before in
+    let args = tested .before .before .before .before .args in
     let called =
-    ran (args .program .now) (args .memory .now) (args .s) (args .requests .now) (c .before .before .before .before .before .before .before .before .tested .ensures) (c .before .before .before .before .before .before .before .done .ensures) (c .before .before .before .before .before .before .if1 .left)
-    (c .before .before .before .before .take .ensures) (c .before .before .before .run-on .ensures .0) (c .before .before .before .run-on .ensures .1) (c .answer .ensures) in
+    ran (args .program .now) (args .memory .now) (args .s) (args .requests .now) (tested .tested .ensures) (asked .done .ensures) (through .before .before .before .if1 .left)
+    (through .before .take .ensures) (through .run-on .ensures .0) (through .run-on .ensures .1) (c .answer .ensures) in
     (sym (ap (λ (r : MicroCalled). r .answer) called), sym (ap (λ (r : MicroCalled). r .memory) called))
 
 pub run-spec : {M : Type 1} → statement M

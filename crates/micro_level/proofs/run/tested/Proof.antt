@@ -7,23 +7,35 @@ use Rattle.micro_level.proofs.run.tested.Tie as tie
 
 returns : tie.Need-returns
 returns c =
-    let args = c .before .before .before .before .before .before .args in
-    sym (lent-refused (args .words) (args .program .now) (args .t3) (args .requests .now) (c .before .before .machine .ensures) (c .before .done .ensures) (c .if1 .taken))
+    let tested = c .before in
+    let lent = tested .before in
+    let args = lent .before .before .before .before .args in
+    sym (lent-refused (args .words) (args .program .now) (args .t3) (args .requests .now) (lent .machine .ensures) (tested .done .ensures) (c .if1 .taken))
 
 returns-2 : tie.Need-returns-2
 returns-2 c =
-    let args = c .before .before .before .before .before .before .before .args in
-    sym (outside (args .words) (args .program .now) (args .t3) (args .requests .now) (c .before .before .before .machine .ensures) (c .before .before .done .ensures) (c .before .if1 .left) (c .if2 .taken))
+    let tested = c .before .before in
+    let lent = tested .before in
+    let args = lent .before .before .before .before .args in
+    sym (outside (args .words) (args .program .now) (args .t3) (args .requests .now) (lent .machine .ensures) (tested .done .ensures) (c .before .if1 .left) (c .if2 .taken))
 
 returns-3 : tie.Need-returns-3
 returns-3 c =
-    let args = c .before .before .before .before .before .before .before .before .before .args in
-    sym (request-refused (args .words) (args .program .now) (args .t3) (args .requests .now) (c .before .before .before .before .before .machine .ensures) (c .before .before .before .before .done .ensures) (c .before .before .before .if1 .left) (c .before .before .if2 .left) (c .before .first-bad .ensures) (c .if3 .taken))
+    let tested = c .before .before .before .before in
+    let lent = tested .before in
+    let args = lent .before .before .before .before .args in
+    sym
+    (request-refused (args .words) (args .program .now) (args .t3) (args .requests .now) (lent .machine .ensures) (tested .done .ensures)
+    (c .before .before .before .if1 .left) (c .before .before .if2 .left) (c .before .first-bad .ensures) (c .if3 .taken))
 
 returns-4 : tie.Need-returns-4
 returns-4 c =
-    let args = c .before .before .before .before .before .before .before .before .before .args in
-    sym (nothing-refused (args .words) (args .program .now) (args .t3) (args .requests .now) (c .before .before .before .before .before .machine .ensures) (c .before .before .before .before .done .ensures) (c .before .before .before .if1 .left) (c .before .before .if2 .left) (c .before .first-bad .ensures) (c .if3 .left))
+    let tested = c .before .before .before .before in
+    let lent = tested .before in
+    let args = lent .before .before .before .before .args in
+    sym
+    (nothing-refused (args .words) (args .program .now) (args .t3) (args .requests .now) (lent .machine .ensures) (tested .done .ensures)
+    (c .before .before .before .if1 .left) (c .before .before .if2 .left) (c .before .first-bad .ensures) (c .if3 .left))
 
 pub tested-spec : {M : Type 1} → statement M
 tested-spec =

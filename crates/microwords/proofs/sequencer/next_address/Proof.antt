@@ -20,7 +20,9 @@ unfolding mpc-unit
 returns-3 c = rw (c .add-bt62 .ensures, c .before .match .keys3)
 
 returns-4 : tie.Need-returns-4
-returns-4 c = let args = c .before .before .before .args in sym (interrupted (args .mpc) (args .opcode) (args .addr) (args .cond) (args .request) (args .ie) (args .sm) (c .before .match .keys4) (c .if1 .taken))
+returns-4 c =
+    let args = c .before .before .before .args in
+    sym (interrupted (args .mpc) (args .opcode) (args .addr) (args .cond) (args .request) (args .ie) (args .sm) (c .before .match .keys4) (c .if1 .taken))
 
 returns-5 : tie.Need-returns-5
 returns-5 c =
@@ -28,7 +30,9 @@ returns-5 c =
     c .before .before .add-bt6 .ensures ∙ sym (not-interrupted (args .mpc) (args .opcode) (args .addr) (args .cond) (args .request) (args .ie) (args .sm) (c .before .match .keys4) (c .if1 .left))
 
 returns-6 : tie.Need-returns-6
-returns-6 c = let args = c .before .before .before .args in sym (supervised (args .mpc) (args .opcode) (args .addr) (args .cond) (args .request) (args .ie) (args .sm) (c .before .match .keys5) (c .if2 .taken))
+returns-6 c =
+    let args = c .before .before .before .args in
+    sym (supervised (args .mpc) (args .opcode) (args .addr) (args .cond) (args .request) (args .ie) (args .sm) (c .before .match .keys5) (c .if2 .taken))
 
 returns-7 : tie.Need-returns-7
 returns-7 c =

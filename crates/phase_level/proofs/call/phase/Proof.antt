@@ -8,22 +8,33 @@ use Rattle.phase_level.proofs.call.phase.Tie as tie
 
 returns : tie.Need-returns
 returns c =
-    let args = c .before .before .before .before .before .args in
-    let called = test-refused (args .program .now) (args .memory .now) (args .s) (args .request) (c .before .before .tested .ensures) (c .before .done .ensures) (c .if1 .taken) in
+    let asked = c .before in
+    let tested = asked .before in
+    let args = tested .before .before .before .args in
+    let called = test-refused (args .program .now) (args .memory .now) (args .s) (args .request) (tested .tested .ensures) (asked .done .ensures) (c .if1 .taken) in
     (sym (ap (λ (r : PhaseCalled). r .answer) called), sym (ap (λ (r : PhaseCalled). r .memory) called))
 
 returns-2 : tie.Need-returns-2
 returns-2 c =
-    let args = c .before .before .before .before .before .before .before .before .args in
-    let called = left (args .program .now) (args .memory .now) (args .s) (args .request) (c .before .before .before .before .before .tested .ensures) (c .before .before .before .before .done .ensures) (c .before .before .before .if1 .left) (c .before .before .take .ensures) (c .before .leaves .ensures) (c .if2 .taken) in
+    let asked = c .before .before .before .before in
+    let tested = asked .before in
+    let args = tested .before .before .before .args in
+    let called =
+    left (args .program .now) (args .memory .now) (args .s) (args .request) (tested .tested .ensures) (asked .done .ensures)
+    (c .before .before .before .if1 .left) (c .before .before .take .ensures) (c .before .leaves .ensures) (c .if2 .taken) in
     (sym (ap (λ (r : PhaseCalled). r .answer) called), sym (ap (λ (r : PhaseCalled). r .memory) called))
 
 returns-3 : tie.Need-returns-3
 returns-3 c =
-    let args = c .before .before .before .before .before .before .before .before .before .before .before .before .before .before .before .before .args in
+    let applied = c .before .before .before in
+    let inside = applied .before .before .before .before .before in
+    let asked = inside .before .before .before .before in
+    let tested = asked .before in
+    let args = tested .before .before .before .args in
     let called =
-    went (args .program .now) (args .memory .now) (args .s) (args .request) (c .before .before .before .before .before .before .before .before .before .before .before .before .before .tested .ensures) (c .before .before .before .before .before .before .before .before .before .before .before .before .done .ensures) (c .before .before .before .before .before .before .before .before .before .before .before .if1 .left) (c .before .before .before .before .before .before .before .before .before .before .take .ensures) (c .before .before .before .before .before .before .before .before .before .leaves .ensures) (c .before .before .before .before .before .before .before .before .if2 .left)
-    (c .before .before .before .before .before .before .phase-done .ensures) (c .before .before .before .before .stores .ensures) (c .before .before .before .apply .ensures) (c .give .ensures) in
+    went (args .program .now) (args .memory .now) (args .s) (args .request) (tested .tested .ensures) (asked .done .ensures)
+    (inside .before .before .before .if1 .left) (inside .before .before .take .ensures) (inside .before .leaves .ensures) (inside .if2 .left)
+    (applied .before .before .before .phase-done .ensures) (applied .before .stores .ensures) (applied .apply .ensures) (c .give .ensures) in
     (sym (ap (λ (r : PhaseCalled). r .answer) called), sym (ap (λ (r : PhaseCalled). r .memory) called))
 
 pub phase-spec : {M : Type 1} → statement M

@@ -7,28 +7,46 @@ use Rattle.phase_level.proofs.call.tested.Tie as tie
 
 returns : tie.Need-returns
 returns c =
-    let args = c .before .before .before .before .before .args in
-    sym (lent-refused (args .words) (args .program .now) (args .t3) (args .request) (c .before .before .machine .ensures) (c .before .done .ensures) (c .if1 .taken))
+    let tested = c .before in
+    let lent = tested .before in
+    let args = lent .before .before .before .args in
+    sym (lent-refused (args .words) (args .program .now) (args .t3) (args .request) (lent .machine .ensures) (tested .done .ensures) (c .if1 .taken))
 
 returns-2 : tie.Need-returns-2
 returns-2 c =
-    let args = c .before .before .before .before .before .before .before .args in
-    sym (mir-refused (args .words) (args .program .now) (args .t3) (args .request) (c .before .before .before .before .machine .ensures) (c .before .before .before .done .ensures) (c .before .before .if1 .left) (c .before .legal .ensures) (c .if2 .taken))
+    let tested = c .before .before .before in
+    let lent = tested .before in
+    let args = lent .before .before .before .args in
+    sym
+    (mir-refused (args .words) (args .program .now) (args .t3) (args .request) (lent .machine .ensures) (tested .done .ensures)
+    (c .before .before .if1 .left) (c .before .legal .ensures) (c .if2 .taken))
 
 returns-3 : tie.Need-returns-3
 returns-3 c =
-    let args = c .before .before .before .before .before .before .before .before .args in
-    sym (outside (args .words) (args .program .now) (args .t3) (args .request) (c .before .before .before .before .before .machine .ensures) (c .before .before .before .before .done .ensures) (c .before .before .before .if1 .left) (c .before .before .legal .ensures) (c .before .if2 .left) (c .if3 .taken))
+    let tested = c .before .before .before .before in
+    let lent = tested .before in
+    let args = lent .before .before .before .args in
+    sym
+    (outside (args .words) (args .program .now) (args .t3) (args .request) (lent .machine .ensures) (tested .done .ensures)
+    (c .before .before .before .if1 .left) (c .before .before .legal .ensures) (c .before .if2 .left) (c .if3 .taken))
 
 returns-4 : tie.Need-returns-4
 returns-4 c =
-    let args = c .before .before .before .before .before .before .before .before .before .args in
-    sym (request-refused (args .words) (args .program .now) (args .t3) (args .request) (c .before .before .before .before .before .before .machine .ensures) (c .before .before .before .before .before .done .ensures) (c .before .before .before .before .if1 .left) (c .before .before .before .legal .ensures) (c .before .before .if2 .left) (c .before .if3 .left) (c .if4 .taken))
+    let tested = c .before .before .before .before .before in
+    let lent = tested .before in
+    let args = lent .before .before .before .args in
+    sym
+    (request-refused (args .words) (args .program .now) (args .t3) (args .request) (lent .machine .ensures) (tested .done .ensures)
+    (c .before .before .before .before .if1 .left) (c .before .before .before .legal .ensures) (c .before .before .if2 .left) (c .before .if3 .left) (c .if4 .taken))
 
 returns-5 : tie.Need-returns-5
 returns-5 c =
-    let args = c .before .before .before .before .before .before .before .before .before .args in
-    sym (nothing-refused (args .words) (args .program .now) (args .t3) (args .request) (c .before .before .before .before .before .before .machine .ensures) (c .before .before .before .before .before .done .ensures) (c .before .before .before .before .if1 .left) (c .before .before .before .legal .ensures) (c .before .before .if2 .left) (c .before .if3 .left) (c .if4 .left))
+    let tested = c .before .before .before .before .before in
+    let lent = tested .before in
+    let args = lent .before .before .before .args in
+    sym
+    (nothing-refused (args .words) (args .program .now) (args .t3) (args .request) (lent .machine .ensures) (tested .done .ensures)
+    (c .before .before .before .before .if1 .left) (c .before .before .before .legal .ensures) (c .before .before .if2 .left) (c .before .if3 .left) (c .if4 .left))
 
 pub tested-spec : {M : Type 1} → statement M
 tested-spec =
