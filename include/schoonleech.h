@@ -4,7 +4,7 @@
    what those leave open.
 
    A caller lends places: a microprogram, memory, registers, a block of state words. A call reads them, changes some of them where they stand
-   and returns an avm_answer. It keeps nothing for the next call.
+   and returns an avm_answer. It keeps nothing for the next call. avm_published alone is lent nothing and returns a microword.
 
    - A slice is a pointer and a number of elements. A slice of length 0 may come with NULL.
    - A block with a fixed size (state, latches, mir, phase) has no length. It may not be NULL.
@@ -29,7 +29,8 @@ extern "C" {
 #define AVM_FETCH 0            /* the fetch address: MPC is here between two instructions         */
 
 /* Numbers of an answer. Numbers 1 to 7 are tested before anything is done, the lowest first, and the first that applies is the answer:
-   all lent places are then as lent. After 8 the completed microcycles of a run stay; see each call. */
+   all lent places are then as lent. After 8 the completed microcycles of a run stay; see each call. avm_steps has no microprogram and no
+   phase, so it never answers 4, 5, 6 or 8. */
 enum {
     AVM_DONE = 0,                 /* nothing was refused                                                                    */
     AVM_BAD_MEMORY_LENGTH = 1,    /* m is not a power of two from AVM_WORDS_FEWEST to AVM_WORDS_MOST                        */
@@ -38,32 +39,35 @@ enum {
     AVM_BAD_PROGRAM_LENGTH = 4,   /* words is 0 or above AVM_PROGRAM_MOST                                                   */
     AVM_BAD_MICROWORD = 5,        /* a microword has a bit above 39 set or a code that no table names; at: the lowest such  */
     AVM_OUTSIDE = 6,              /* MPC is not below words, or the phase number is above 3                                 */
-    AVM_BAD_REQUEST = 7,          /* a request byte is above 3; at: the first such place                                    */
+    AVM_BAD_REQUEST = 7,          /* a request byte is above 3, or for avm_steps above 1; at: the first such place          */
     AVM_LEFT_PROGRAM = 8          /* a microcycle would give a next address that is not below words                         */
 };
 
 /* Two clocks, two types: a count on one can't be taken for a count on the other. */
-typedef struct { uint64_t count; } avm_microcycles;      /* a count on the microcycle clock, four phases each */
-typedef struct { uint64_t count; } avm_instructions;     /* a count on the instruction clock                  */
+typedef struct { uint64_t count; } avm_microcycles;      /* a count on the microcycle clock, four phases each                   */
+typedef struct { uint64_t count; } avm_instructions;     /* a count on the instruction clock, an instruction or interrupt each  */
 
 /* What a call returns. A field that the call does not name for this number is 0. Words and places are counted from 0. */
 typedef struct {
     uint64_t number;               /* AVM_DONE, or why the call was refused                                                 */
     uint64_t at;                   /* with 5 the word, with 7 the place in the request bytes                                */
-    avm_microcycles microcycles;   /* with 0 and 8: microcycles that a run completed                                        */
-    avm_instructions steps;        /* with 0 and 8: returns to fetch among them, microcycles after which MPC is AVM_FETCH   */
+    avm_microcycles microcycles;   /* of avm_run with 0 and 8: the microcycles that it completed                            */
+    avm_instructions steps;        /* of avm_run with 0 and 8: returns to fetch, those of them after which MPC is AVM_FETCH;
+                                      of avm_steps with 0: the steps that it did                                            */
 } avm_answer;
 
 /* Words of the state block, by index; AVM_STATE is their number.
 
    AVM_PSW   program status word: z bit 0, c bit 1, n bit 2, v bit 3, ie bit 4, sm bit 5. Higher bits mean nothing. A call drops them from the
-             lent PSW, also where it has no microcycle to do; a refused call that completed no microcycle leaves them as lent.
+             lent PSW, also where it has no microcycle or step to do; a refused call that completed no microcycle leaves them as lent.
    AVM_PC    program counter, an address in memory words
    AVM_IR    instruction register
    AVM_MAR   memory address register, an address in memory words
    AVM_MBR   memory buffer register
    AVM_MPC   microprogram counter: the address of the next microword, below words
-   AVM_IVEC  interrupt vector. No call changes it. */
+   AVM_IVEC  interrupt vector. No call changes it.
+
+   avm_steps has no use for IR, MAR, MBR and MPC: it takes any word there, MPC too, and leaves all four as lent. */
 enum { AVM_PSW, AVM_PC, AVM_IR, AVM_MAR, AVM_MBR, AVM_MPC, AVM_IVEC, AVM_STATE };
 
 /* Words of the latch block that phase calls hand on, by index; AVM_LATCHES is their number.
@@ -119,6 +123,39 @@ avm_answer avm_run(const uint64_t *program, size_t words, uint32_t *memory, size
    The counts are 0 in every case. */
 avm_answer avm_phase(const uint64_t *program, size_t words, uint32_t *memory, size_t m, uint32_t *registers, size_t count,
                      uint32_t state[AVM_STATE], uint32_t latches[AVM_LATCHES], uint64_t *mir, uint32_t *phase, uint8_t request);
+
+/* Does one step for each request byte, in their order. A step is the instruction at PC, or the interrupt step. No microprogram takes part:
+   docs/AVM1.md says what each instruction does (section 3) and what the interrupt step does (section 13).
+
+   memory, m         memory, in words of 32 bits; an address, PC too, is taken modulo m where memory is read or written
+   registers, count  registers 0 to 31
+   state             the state block; PSW and PC change, the others stay as lent
+   requests, bytes   one byte a step: 1 interrupt, 0 none; only read. There is no reset here: 2 and 3 are refused.
+
+   A step is the interrupt step exactly if its byte is 1 and ie is set when it begins. That one stores PC at the supervisor stack pointer,
+   register 1, which moves up by one, sets sm, clears ie and takes the low eight bits of IVEC for PC.
+
+   Number 0: all bytes were done. memory, registers, PSW and PC are those after the last step, and the answer has the steps done (that is
+   bytes) and no microcycles. With no byte only the PSW's higher bits are dropped.
+   Numbers 1, 2, 3 and 7: refused, everything as lent. */
+avm_answer avm_steps(uint32_t *memory, size_t m, uint32_t *registers, size_t count, uint32_t state[AVM_STATE], const uint8_t *requests,
+                     size_t bytes);
+
+/* The published microprogram: the microword at an address, which is taken modulo AVM_PROGRAM_MOST. It is lent nothing and refuses nothing.
+
+   It is a table of AVM_PROGRAM_MOST words, all of them good. To run it, make an array of it and lend that to avm_run or avm_phase:
+
+       uint64_t program[AVM_PROGRAM_MOST];
+       size_t k;
+
+       for (k = 0; k < AVM_PROGRAM_MOST; k++)
+           program[k] = avm_published(k);
+
+   A run of it with MPC at AVM_FETCH is never answered with 8, and its returns to fetch show exactly the steps of avm_steps. After the n-th
+   return memory, registers, PSW, PC and IVEC are those that avm_steps leaves after n steps from the same start. The n-th step's byte is the
+   interrupt bit of the request byte of the n-th microcycle that stood at fetch; all other request bytes change nothing.
+   A step takes 4 microcycles, but CALL and INT 7, RTI, RTN, LD, LDI, ST and STI 6, and the interrupt step 5. */
+uint64_t avm_published(uint64_t address);
 
 #ifdef __cplusplus
 }

@@ -98,15 +98,15 @@ static void draw_program(struct dice *dice, struct inputs *in)
     }
 }
 
-/* None, a few, or thousands; the share of bytes that ask for an interrupt or reset differs from case to case. */
-static void draw_requests(struct dice *dice, struct inputs *in)
+/* None, a few, or many up to the most; the share of bytes that ask for something differs from case to case. */
+static void draw_requests(struct dice *dice, struct inputs *in, size_t most, size_t codes)
 {
     unsigned share = (unsigned)dice_below(dice, 101);
     size_t place;
 
-    in->bytes = dice_below(dice, dice_chance(dice, 50) ? 9 : REQUESTS_ROOM + 1);
+    in->bytes = dice_below(dice, dice_chance(dice, 50) ? 9 : most + 1);
     for (place = 0; place < in->bytes; place++)
-        in->requests[place] = dice_chance(dice, share) ? (uint8_t)dice_below(dice, 4) : 0;
+        in->requests[place] = dice_chance(dice, share) ? (uint8_t)dice_below(dice, codes) : 0;
 }
 
 static void draw_state(struct dice *dice, struct inputs *in)
@@ -137,7 +137,7 @@ void draw_inputs(struct dice *dice, struct inputs *in)
         in->registers[k] = draw_value(dice);
     draw_program(dice, in);
     draw_state(dice, in);
-    draw_requests(dice, in);
+    draw_requests(dice, in, REQUESTS_ROOM, 4);
 }
 
 static size_t draw_length(struct dice *dice, const size_t *lengths, size_t count)
@@ -160,6 +160,15 @@ static void damage_lengths(struct dice *dice, struct inputs *in)
         in->words = draw_length(dice, programs, COUNT(programs));
 }
 
+static void damage_requests(struct dice *dice, struct inputs *in, size_t lowest_bad)
+{
+    size_t bad;
+
+    if (in->bytes > 0 && dice_chance(dice, 30))
+        for (bad = 1 + dice_below(dice, 3); bad > 0; bad--)
+            in->requests[dice_below(dice, in->bytes)] = (uint8_t)(lowest_bad + dice_below(dice, 256 - lowest_bad));
+}
+
 void draw_damage(struct dice *dice, struct inputs *in)
 {
     size_t bad;
@@ -174,7 +183,23 @@ void draw_damage(struct dice *dice, struct inputs *in)
         in->state[AVM_MPC] = draw_bit(dice) ? draw_value(dice) : (uint32_t)in->words;
     if (dice_chance(dice, 15))
         in->phase = draw_bit(dice) ? 4 : draw_value(dice);
-    if (in->bytes > 0 && dice_chance(dice, 30))
-        for (bad = 1 + dice_below(dice, 3); bad > 0; bad--)
-            in->requests[dice_below(dice, in->bytes)] = (uint8_t)(4 + dice_below(dice, 252));
+    damage_requests(dice, in, 4);
+}
+
+/* A word with all bits drawn is an instruction of any kind. One word in five stays as it was, for small addresses and edges to be loaded. */
+void draw_steps(struct dice *dice, struct inputs *in)
+{
+    size_t place;
+
+    for (place = 0; place < in->m; place++)
+        if (dice_chance(dice, 80))
+            in->memory[place] = (uint32_t)dice_next(dice);
+    in->state[AVM_MPC] = draw_value(dice);
+    draw_requests(dice, in, 800, 2);
+}
+
+void draw_step_damage(struct dice *dice, struct inputs *in)
+{
+    damage_lengths(dice, in);
+    damage_requests(dice, in, 2);
 }

@@ -20,4 +20,10 @@ void draw_inputs(struct dice *dice, struct inputs *inputs);
 /* Damages some of what is lent, so that a call refuses it with 1 to 7, or now and then nothing. */
 void draw_damage(struct dice *dice, struct inputs *inputs);
 
+/* Makes drawn inputs fit for steps: instructions in memory, request bytes of 0 and 1, and any MPC. */
+void draw_steps(struct dice *dice, struct inputs *inputs);
+
+/* Damages some of what avm_steps is lent, so that it refuses with 1, 2, 3 or 7, or now and then nothing. */
+void draw_step_damage(struct dice *dice, struct inputs *inputs);
+
 #endif

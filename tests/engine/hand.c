@@ -39,6 +39,31 @@ uint64_t pack(struct microword fields)
     return number;
 }
 
+static uint32_t instruction_word(unsigned opcode, unsigned dest, unsigned srca, uint32_t low)
+{
+    return (uint32_t)opcode << 26 | (uint32_t)dest << 21 | (uint32_t)srca << 16 | low;
+}
+
+uint32_t format_1(unsigned opcode, unsigned dest, unsigned srca, unsigned srcb)
+{
+    return instruction_word(opcode, dest, srca, (uint32_t)srcb << 11 | 0x7FF);
+}
+
+uint32_t format_2(unsigned opcode, unsigned dest, unsigned srca, uint32_t imm)
+{
+    return instruction_word(opcode, dest, srca, imm);
+}
+
+uint32_t format_3(unsigned opcode, unsigned dest)
+{
+    return instruction_word(opcode, dest, 31, 0xFFFF);
+}
+
+uint32_t format_4(unsigned opcode)
+{
+    return instruction_word(opcode, 31, 31, 0xFFFF);
+}
+
 struct microword idle(void)
 {
     struct microword word;
@@ -77,6 +102,29 @@ void start(struct inputs *in)
     in->mir = pack(idle());
 }
 
+void start_at_instruction(struct inputs *in, uint32_t instruction)
+{
+    start(in);
+    in->memory[3] = instruction;
+    in->state[AVM_MPC] = 0xFFFFFFFF;
+}
+
+void ask(struct inputs *in, const char *digits)
+{
+    for (in->bytes = 0; digits[in->bytes] != '\0'; in->bytes++)
+        in->requests[in->bytes] = (uint8_t)(digits[in->bytes] - '0');
+}
+
+void publish(struct inputs *in)
+{
+    size_t k;
+
+    in->words = AVM_PROGRAM_MOST;
+    for (k = 0; k < in->words; k++)
+        in->program[k] = avm_published(k);
+    in->state[AVM_MPC] = AVM_FETCH;
+}
+
 avm_answer done(uint64_t microcycles, uint64_t steps)
 {
     avm_answer answer = {AVM_DONE, 0, {microcycles}, {steps}};
@@ -112,28 +160,54 @@ static void expect_outcome(const char *who, avm_answer got, avm_answer want, con
     expect_nothing_beyond(who);
 }
 
-void check_run(const struct inputs *before, const struct inputs *after, avm_answer want)
-{
-    int which, side;
+enum call { RUN, PHASE, STEPS };
 
-    for (which = 0; which < 2; which++)
+static avm_answer call(enum call which, const struct implementation *implementation, const struct places *places, uint8_t request)
+{
+    switch (which) {
+    case RUN: return call_run(implementation, places);
+    case PHASE: return call_phase(implementation, places, request);
+    default: return call_steps(implementation, places);
+    }
+}
+
+/* The request is that of a phase call. */
+static void check(enum call which, const struct inputs *before, const struct inputs *after, avm_answer want, uint8_t request)
+{
+    int who, side;
+
+    for (who = 0; who < 2; who++)
         for (side = 0; side < SIDES; side++) {
             struct places places = lend(before, side);
-            avm_answer got = call_run(both[which], &places);
+            avm_answer got = call(which, both[who], &places, request);
 
-            expect_outcome(both[which]->name, got, want, &places, after);
+            expect_outcome(both[who]->name, got, want, &places, after);
         }
+}
+
+void check_run(const struct inputs *before, const struct inputs *after, avm_answer want)
+{
+    check(RUN, before, after, want, 0);
 }
 
 void check_phase(const struct inputs *before, const struct inputs *after, avm_answer want, uint8_t request)
 {
-    int which, side;
+    check(PHASE, before, after, want, request);
+}
 
-    for (which = 0; which < 2; which++)
-        for (side = 0; side < SIDES; side++) {
-            struct places places = lend(before, side);
-            avm_answer got = call_phase(both[which], &places, request);
+void check_steps(const struct inputs *before, const struct inputs *after, avm_answer want)
+{
+    check(STEPS, before, after, want, 0);
+}
 
-            expect_outcome(both[which]->name, got, want, &places, after);
-        }
+void check_instruction(struct inputs *before, struct inputs *after)
+{
+    size_t place = before->state[AVM_PC] % before->m;
+    bool kept = after->memory[place] == before->memory[place];
+
+    check_steps(before, after, done(0, 1));
+    before->memory[place] ^= 0x80000000u;
+    if (kept)
+        after->memory[place] ^= 0x80000000u;
+    check_steps(before, after, done(0, 1));
 }

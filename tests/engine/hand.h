@@ -2,6 +2,7 @@
 #ifndef ENGINE_HAND_H
 #define ENGINE_HAND_H
 
+#include "../simulator/instructions.h"
 #include "../simulator/microword.h"
 #include "check.h"
 #include "places.h"
@@ -14,9 +15,24 @@ uint64_t pack(struct microword fields);
 /* NOOP_u1: nothing but a jump to word 0. */
 struct microword idle(void);
 
-/* Inputs that no call refuses, with something of its own in every word: a program of one idle word, 16 words of memory, MPC 0, one request
-   byte 0, and nothing in the PSW. */
+/* Instruction words by their format (figure 5.1, p. 66). Bits that a format does not use are set: they mean nothing. */
+uint32_t format_1(unsigned opcode, unsigned dest, unsigned srca, unsigned srcb);
+uint32_t format_2(unsigned opcode, unsigned dest, unsigned srca, uint32_t imm);
+uint32_t format_3(unsigned opcode, unsigned dest);
+uint32_t format_4(unsigned opcode);
+
+/* Inputs that no call refuses, with something of its own in every word: a program of one idle word, 16 words of memory, PC 3, MPC 0, one
+   request byte 0, and nothing in the PSW. */
 void start(struct inputs *inputs);
+
+/* The same with that instruction at PC. MPC is one that only steps take. */
+void start_at_instruction(struct inputs *inputs, uint32_t instruction);
+
+/* Request bytes by their digits. */
+void ask(struct inputs *inputs, const char *digits);
+
+/* Puts the published microprogram into the inputs, with MPC at fetch. */
+void publish(struct inputs *inputs);
 
 avm_answer done(uint64_t microcycles, uint64_t steps);
 avm_answer left(uint64_t microcycles, uint64_t steps);
@@ -25,7 +41,12 @@ avm_answer refused(uint64_t number, uint64_t at);
 /* Expect the answer and the final content of every place, of the engine and of the second simulator, on both sides of a guard page. */
 void check_run(const struct inputs *before, const struct inputs *after, avm_answer want);
 void check_phase(const struct inputs *before, const struct inputs *after, avm_answer want, uint8_t request);
+void check_steps(const struct inputs *before, const struct inputs *after, avm_answer want);
+
+/* One step, and the same with bit 31 of the instruction word turned round: that bit is ignored. Both inputs come back with it so. */
+void check_instruction(struct inputs *before, struct inputs *after);
 
 extern const struct test word_tests[], program_tests[], phase_tests[], refusal_tests[], random_tests[];
+extern const struct test instruction_tests[], flow_tests[], step_refusal_tests[], published_tests[], random_step_tests[];
 
 #endif

@@ -38,7 +38,37 @@ static int calls_fit(void)
     return answer.number == AVM_DONE && mir == program[0] && phase == 1 && latches[AVM_IREQ] == 1;
 }
 
+/* Memory of zeros is all JMP on a carry that is never set: three steps, and no MPC is looked at. A request byte of 2 is refused. */
+static int steps_fit(void)
+{
+    const uint8_t requests[4] = {0, 1, 0, 2};
+    uint32_t memory[AVM_WORDS_FEWEST] = {0}, registers[AVM_REGISTERS] = {0}, state[AVM_STATE] = {0};
+    avm_answer answer;
+
+    state[AVM_MPC] = UINT32_MAX;
+    answer = avm_steps(memory, AVM_WORDS_FEWEST, registers, AVM_REGISTERS, state, requests, 3);
+    if (answer.number != AVM_DONE || answer.microcycles.count != 0 || answer.steps.count != 3)
+        return 0;
+    answer = avm_steps(memory, AVM_WORDS_FEWEST, registers, AVM_REGISTERS, state, requests, 4);
+    return answer.number == AVM_BAD_REQUEST && answer.at == 3 && answer.steps.count == 0 && state[AVM_PC] == 3;
+}
+
+/* The published microprogram does the same jump in four microcycles, one step. */
+static int published_fits(void)
+{
+    const uint8_t requests[4] = {0, 0, 0, 0};
+    uint32_t memory[AVM_WORDS_FEWEST] = {0}, registers[AVM_REGISTERS] = {0}, state[AVM_STATE] = {0};
+    uint64_t program[AVM_PROGRAM_MOST];
+    avm_answer answer;
+    size_t k;
+
+    for (k = 0; k < AVM_PROGRAM_MOST; k++)
+        program[k] = avm_published(k);
+    answer = avm_run(program, AVM_PROGRAM_MOST, memory, AVM_WORDS_FEWEST, registers, AVM_REGISTERS, state, requests, 4);
+    return answer.number == AVM_DONE && answer.steps.count == 1 && state[AVM_PC] == 1 && avm_published(UINT64_MAX) == program[63];
+}
+
 int main(void)
 {
-    return limits_fit() && numbers_fit() && places_fit() && calls_fit() ? 0 : 1;
+    return limits_fit() && numbers_fit() && places_fit() && calls_fit() && steps_fit() && published_fits() ? 0 : 1;
 }

@@ -7,6 +7,11 @@ int main(void)
     run_tests(program_tests);
     run_tests(phase_tests);
     run_tests(refusal_tests);
+    run_tests(instruction_tests);
+    run_tests(flow_tests);
+    run_tests(step_refusal_tests);
+    run_tests(published_tests);
     run_tests(random_tests);
+    run_tests(random_step_tests);
     return report();
 }

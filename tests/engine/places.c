@@ -11,8 +11,8 @@
 #include "../simulator/simulator.h"
 #include "check.h"
 
-const struct implementation engine = {"engine", avm_run, avm_phase};
-const struct implementation simulator = {"second simulator", sim_run, sim_phase};
+const struct implementation engine = {"engine", avm_run, avm_phase, avm_steps};
+const struct implementation simulator = {"second simulator", sim_run, sim_phase, sim_steps};
 
 avm_answer call_run(const struct implementation *implementation, const struct places *p)
 {
@@ -23,6 +23,11 @@ avm_answer call_phase(const struct implementation *implementation, const struct 
 {
     return implementation->phase(p->program, p->words, p->memory, p->m, p->registers, p->count, p->state, p->latches, p->mir, p->phase,
                                  request);
+}
+
+avm_answer call_steps(const struct implementation *implementation, const struct places *p)
+{
+    return implementation->steps(p->memory, p->m, p->registers, p->count, p->state, p->requests, p->bytes);
 }
 
 struct places places_in(struct inputs *inputs)
@@ -133,7 +138,7 @@ void expect_nothing_beyond(const char *who)
 
 void expect_same_answer(const char *who, avm_answer got, avm_answer want)
 {
-    expect(memcmp(&got, &want, sizeof got) == 0, "%s answers %llu at %llu, %llu microcycles, %llu returns, not %llu at %llu, %llu, %llu",
+    expect(memcmp(&got, &want, sizeof got) == 0, "%s answers %llu at %llu, %llu microcycles, %llu steps, not %llu at %llu, %llu, %llu",
            who, (unsigned long long)got.number, (unsigned long long)got.at, (unsigned long long)got.microcycles.count,
            (unsigned long long)got.steps.count, (unsigned long long)want.number, (unsigned long long)want.at,
            (unsigned long long)want.microcycles.count, (unsigned long long)want.steps.count);

@@ -32,19 +32,22 @@ struct places {
     size_t words, m, count, bytes;
 };
 
-/* Something that answers the two calls: the engine, or the second simulator. */
+/* Something that answers the three calls: the engine, or the second simulator. */
 struct implementation {
     const char *name;
     avm_answer (*run)(const uint64_t *program, size_t words, uint32_t *memory, size_t m, uint32_t *registers, size_t count,
                       uint32_t *state, const uint8_t *requests, size_t bytes);
     avm_answer (*phase)(const uint64_t *program, size_t words, uint32_t *memory, size_t m, uint32_t *registers, size_t count,
                         uint32_t *state, uint32_t *latches, uint64_t *mir, uint32_t *phase, uint8_t request);
+    avm_answer (*steps)(uint32_t *memory, size_t m, uint32_t *registers, size_t count, uint32_t *state, const uint8_t *requests,
+                        size_t bytes);
 };
 
 extern const struct implementation engine, simulator;
 
 avm_answer call_run(const struct implementation *implementation, const struct places *places);
 avm_answer call_phase(const struct implementation *implementation, const struct places *places, uint8_t request);
+avm_answer call_steps(const struct implementation *implementation, const struct places *places);
 
 /* The inputs' own arrays as places. */
 struct places places_in(struct inputs *inputs);

@@ -29,12 +29,6 @@ static void start_with_printed_words(uint32_t instruction)
     before.memory[3] = instruction; /* PC is 3 */
 }
 
-static void ask(const char *bytes)
-{
-    for (before.bytes = 0; bytes[before.bytes] != '\0'; before.bytes++)
-        before.requests[before.bytes] = (uint8_t)(bytes[before.bytes] - '0');
-}
-
 /* ADD 9, 10, 11: opcode 16, so 010000 01001 01010 01011 and eleven zeros. R10 + R11 = FFFFFFFF + 1 = 0 with c and z. */
 static void printed_add(void)
 {
@@ -46,20 +40,20 @@ static void printed_add(void)
     before.state[AVM_PSW] = SM | N | V;
     after = before;
 
-    ask("0"); /* FETCH */
+    ask(&before, "0"); /* FETCH */
     after.state[AVM_MAR] = 3;
     after.state[AVM_MBR] = ADD;
     after.state[AVM_MPC] = 1;
     check_run(&before, &after, done(1, 0));
-    ask("00"); /* ISSUE */
+    ask(&before, "00"); /* ISSUE */
     after.state[AVM_IR] = ADD;
     after.state[AVM_MPC] = 2;
     check_run(&before, &after, done(2, 0));
-    ask("000"); /* DECODE: 4 + 16 */
+    ask(&before, "000"); /* DECODE: 4 + 16 */
     after.state[AVM_PC] = 4;
     after.state[AVM_MPC] = 20;
     check_run(&before, &after, done(3, 0));
-    ask("0000"); /* ADD_u1 */
+    ask(&before, "0000"); /* ADD_u1 */
     after.registers[9] = 0;
     after.state[AVM_PSW] = SM | C | Z;
     after.state[AVM_MPC] = 0;
@@ -78,7 +72,7 @@ static void printed_jmp(void)
             start_with_printed_words(instructions[k]);
             before.registers[12] = 0x10000000;
             before.state[AVM_PSW] = rows[row].psw;
-            ask("0000");
+            ask(&before, "0000");
             after = before;
             after.state[AVM_MAR] = 3;
             after.state[AVM_MBR] = after.state[AVM_IR] = instructions[k];
@@ -111,7 +105,7 @@ static void requests_count_at_fetch_alone(void)
         stand_at_row(k);
         start_with_printed_words(NOOP);
         before.state[AVM_PSW] = requests[k].psw;
-        ask(requests[k].bytes);
+        ask(&before, requests[k].bytes);
         after = before;
         after.state[AVM_MAR] = 3;
         after.state[AVM_MBR] = NOOP;
@@ -128,7 +122,7 @@ static void a_request_is_not_kept(void)
     start_with_printed_words(NOOP);
     before.memory[4] = 0x12345678;
     before.state[AVM_PSW] = IE;
-    ask("01110");
+    ask(&before, "01110");
     after = before;
     after.state[AVM_PC] = after.state[AVM_MAR] = 4;
     after.state[AVM_IR] = NOOP;

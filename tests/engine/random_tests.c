@@ -1,66 +1,7 @@
-/* Seeded random comparisons of the engine with the second simulator, every place lent between guard pages. */
+/* Random runs and phase calls, compared with the second simulator's. */
+#include "comparing.h"
 #include "drawing.h"
 #include "hand.h"
-
-static struct inputs drawn, own;
-static uint64_t seen[AVM_LEFT_PROGRAM + 1]; /* answers by number */
-
-static void forget_answers(void)
-{
-    size_t number;
-
-    for (number = 0; number < COUNT(seen); number++)
-        seen[number] = 0;
-}
-
-/* A comparison shows something only where each of these answers came. */
-static void expect_seen(size_t lowest, size_t highest)
-{
-    size_t number;
-
-    for (number = lowest; number <= highest; number++)
-        expect(seen[number] > 0 || !holds_so_far(), "no case was answered with %zu", number);
-}
-
-static void compare_answers(avm_answer got, avm_answer want)
-{
-    expect_same_answer("engine", got, want);
-    if (want.number < COUNT(seen))
-        seen[want.number]++;
-}
-
-/* Compares the drawn inputs on both, lent on a side; answers how much was compared. */
-typedef uint64_t one_case(struct dice *dice, enum side side);
-
-static uint64_t compare_cases(uint64_t seed, uint64_t cases, one_case *compare)
-{
-    uint64_t number, compared = 0;
-
-    forget_answers();
-    for (number = 0; number < rounds(cases) && holds_so_far(); number++) {
-        struct dice dice = dice_for(seed, number);
-
-        stand_at(seed, number);
-        draw_inputs(&dice, &drawn);
-        compared += compare(&dice, number % 2 == 0 ? AT_END : AT_START);
-    }
-    return compared;
-}
-
-/* The drawn inputs, lent to the engine and in a copy of one's own. */
-struct both {
-    struct places lent, mine;
-};
-
-static struct both lend_both(enum side side)
-{
-    struct both both;
-
-    own = drawn;
-    both.mine = places_in(&own);
-    both.lent = lend(&drawn, side);
-    return both;
-}
 
 static uint64_t run_case(struct dice *dice, enum side side)
 {

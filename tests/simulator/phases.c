@@ -3,7 +3,6 @@
 #include "microword.h"
 #include "words.h"
 
-enum { SSP = 1 };         /* the supervisor stack pointer's register; the source gives no number */
 enum { OPCODE_TABLE = 4 }; /* jop goes here, plus the opcode */
 
 void phase_one(struct machine *now, const struct store *store, bool int_e)

@@ -1,5 +1,6 @@
 #include "simulator.h"
 
+#include "instructions.h"
 #include "microword.h"
 #include "phases.h"
 #include "words.h"
@@ -21,17 +22,26 @@ static bool is_power_of_two_in_range(size_t m)
     return false;
 }
 
-/* Numbers 1 to 5 of the scope, the lowest first, as far as both calls share them. */
-static avm_answer test_lent(const struct store *store, const uint32_t *registers, size_t count)
+/* Numbers 1 to 3 of the scope, the lowest first: every call has these. */
+static avm_answer test_machine(size_t m, const uint32_t *registers, size_t count)
 {
-    size_t word;
-
-    if (!is_power_of_two_in_range(store->m))
+    if (!is_power_of_two_in_range(m))
         return numbered(AVM_BAD_MEMORY_LENGTH, 0);
     if (count != 32)
         return numbered(AVM_BAD_REGISTER_COUNT, 0);
     if (registers[0] != 0)
         return numbered(AVM_REGISTER_0_NOT_ZERO, 0);
+    return numbered(AVM_DONE, 0);
+}
+
+/* And 4 and 5, for the calls that have a microprogram. */
+static avm_answer test_lent(const struct store *store, const uint32_t *registers, size_t count)
+{
+    avm_answer answer = test_machine(store->m, registers, count);
+    size_t word;
+
+    if (answer.number != AVM_DONE)
+        return answer;
     if (store->words < 1 || store->words > 64)
         return numbered(AVM_BAD_PROGRAM_LENGTH, 0);
     for (word = 0; word < store->words; word++)
@@ -40,20 +50,26 @@ static avm_answer test_lent(const struct store *store, const uint32_t *registers
     return numbered(AVM_DONE, 0);
 }
 
+static avm_answer test_requests(const uint8_t *requests, size_t bytes, uint8_t highest)
+{
+    size_t place;
+
+    for (place = 0; place < bytes; place++)
+        if (requests[place] > highest)
+            return numbered(AVM_BAD_REQUEST, place);
+    return numbered(AVM_DONE, 0);
+}
+
 static avm_answer test_run(const struct store *store, const uint32_t *registers, size_t count, const uint32_t *state,
                            const uint8_t *requests, size_t bytes)
 {
     avm_answer answer = test_lent(store, registers, count);
-    size_t place;
 
     if (answer.number != AVM_DONE)
         return answer;
     if (state[AVM_MPC] >= store->words)
         return numbered(AVM_OUTSIDE, 0);
-    for (place = 0; place < bytes; place++)
-        if (requests[place] > 3)
-            return numbered(AVM_BAD_REQUEST, place);
-    return numbered(AVM_DONE, 0);
+    return test_requests(requests, bytes, 3);
 }
 
 /* The MIR is tested as the word after the program's last. */
@@ -90,20 +106,17 @@ static void load_state(struct machine *machine, const uint32_t *state)
     machine->ivec = state[AVM_IVEC];
 }
 
-static void load_registers(struct machine *machine, const uint32_t *registers)
+static void copy_registers(uint32_t *to, const uint32_t *from)
 {
     unsigned number;
 
     for (number = 0; number < 32; number++)
-        machine->reg[number] = registers[number];
+        to[number] = from[number];
 }
 
 static void give_back(const struct machine *machine, uint32_t *registers, uint32_t *state)
 {
-    unsigned number;
-
-    for (number = 0; number < 32; number++)
-        registers[number] = machine->reg[number];
+    copy_registers(registers, machine->reg);
     state[AVM_PSW] = machine->psw;
     state[AVM_PC] = machine->pc;
     state[AVM_IR] = machine->ir;
@@ -124,7 +137,7 @@ avm_answer sim_run(const uint64_t *program, size_t words, uint32_t *memory, size
     if (answer.number != AVM_DONE)
         return answer;
     load_state(&machine, state);
-    load_registers(&machine, registers);
+    copy_registers(machine.reg, registers);
     for (place = 0; place < bytes; place++) {
         if (!microcycle(&machine, &store, interrupt_line(requests[place]))) {
             answer.number = AVM_LEFT_PROGRAM;
@@ -152,7 +165,7 @@ avm_answer sim_phase(const uint64_t *program, size_t words, uint32_t *memory, si
     answer = test_phase(&store, registers, count, &machine, request);
     if (answer.number != AVM_DONE)
         return answer;
-    load_registers(&machine, registers);
+    copy_registers(machine.reg, registers);
     switch (*phase) {
     case 0: phase_one(&machine, &store, interrupt_line(request)); break;
     case 1: phase_two(&machine); break;
@@ -168,5 +181,27 @@ avm_answer sim_phase(const uint64_t *program, size_t words, uint32_t *memory, si
     latches[AVM_IACK] = machine.iack_ff;
     *mir = machine.mir;
     *phase = machine.clk;
+    return answer;
+}
+
+/* Request bytes are 0 and 1 here: a macro step has no reset (the scope). */
+avm_answer sim_steps(uint32_t *memory, size_t m, uint32_t *registers, size_t count, uint32_t state[AVM_STATE], const uint8_t *requests,
+                     size_t bytes)
+{
+    struct macro_state machine = {.pc = state[AVM_PC], .ivec = state[AVM_IVEC], .psw = psw_fields(state[AVM_PSW]), .memory = memory, .m = m};
+    avm_answer answer = test_machine(m, registers, count);
+    size_t place;
+
+    if (answer.number == AVM_DONE)
+        answer = test_requests(requests, bytes, 1);
+    if (answer.number != AVM_DONE)
+        return answer;
+    copy_registers(machine.reg, registers);
+    for (place = 0; place < bytes; place++)
+        macro_step(&machine, interrupt_line(requests[place]));
+    copy_registers(registers, machine.reg);
+    state[AVM_PSW] = psw_word(machine.psw);
+    state[AVM_PC] = machine.pc;
+    answer.steps.count = bytes;
     return answer;
 }

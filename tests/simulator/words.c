@@ -40,7 +40,7 @@ static bool leaves_signed_range(int64_t value)
     return value < -0x80000000LL || value > 0x7FFFFFFFLL;
 }
 
-static struct alu_answer alu_plain(uint32_t result)
+struct alu_answer alu_plain(uint32_t result)
 {
     struct alu_answer answer = {result, false, false, result >= 0x80000000u, result == 0};
 
@@ -48,7 +48,7 @@ static struct alu_answer alu_plain(uint32_t result)
 }
 
 /* Carry out when the true sum reaches 2^32, any carry in counted. */
-static struct alu_answer alu_sum(uint32_t a, uint32_t b, bool carry)
+struct alu_answer alu_sum(uint32_t a, uint32_t b, bool carry)
 {
     uint64_t true_sum = (uint64_t)a + b + carry;
     struct alu_answer answer = alu_plain((uint32_t)true_sum);
@@ -59,7 +59,7 @@ static struct alu_answer alu_sum(uint32_t a, uint32_t b, bool carry)
 }
 
 /* The carry bit itself is subtracted (text of SUBC, pp. 68-74), and carry out means that nothing was borrowed. */
-static struct alu_answer alu_difference(uint32_t a, uint32_t b, bool carry)
+struct alu_answer alu_difference(uint32_t a, uint32_t b, bool carry)
 {
     uint64_t taken_away = (uint64_t)b + carry;
     struct alu_answer answer = alu_plain((uint32_t)(a - taken_away));

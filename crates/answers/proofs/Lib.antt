@@ -1,3 +1,4 @@
 -- What the definitions of specs/ mean.
 pub mod FirstPlace
 pub mod OneNumberAnEnd
+pub mod LentTests

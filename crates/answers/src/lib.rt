@@ -1,7 +1,9 @@
-// How the engine's calls answer: the counts of the two clocks, and the end of a call with the number
-// that the grader shows.
+// How the engine's calls answer: the counts of the two clocks, the end of a call with the number that
+// the grader shows, and the tests that several levels share.
 ghost use mathlib.Core.Path.{_≡_};
 ghost use Rattle.answers.specs.Ends.{is-done, shown};
+
+pub mod tests;
 
 // A count on the microcycle clock.
 #[repr(C)]

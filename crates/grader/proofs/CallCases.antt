@@ -15,20 +15,23 @@ use Rattle.phase_level.proofs.PhaseCalls.{as-lent}
 use Rattle.micro_level.specs.declared.machine.MicroState.{MicroState}
 use Rattle.micro_level.specs.declared.run.MicroAnswer.{MicroAnswer}
 use Rattle.micro_level.specs.Run.{run}
+use Rattle.macro_level.specs.declared.machine.MacroState.{MacroState}
+use Rattle.macro_level.specs.declared.run.MacroAnswer.{MacroAnswer}
+use Rattle.macro_level.specs.Run.{run as macro-run}
 use Rattle.grader.specs.declared.Answer.{Answer}
 use Rattle.grader.specs.Answers.{refused, answered}
-use Rattle.grader.specs.Calls.{register-count, micro-state, state-words, run-found, avm-run}
+use Rattle.grader.specs.Calls.{register-count, micro-state, state-words, found, avm-run, macro-state, macro-words, avm-steps}
 use Rattle.grader.specs.Calls.{phase-state, phase-words, latch-words, phase-found, uncounted, avm-phase}
 
 module _ (program mem registers state requests : List ℕ) {legal : Bool} (l : legal ≡ legal-length (length mem)) where
   pub run-1 : not legal ≡ true → {shown : Answer} → shown ≡ refused 1
-      → run-found shown mem registers state ≡ avm-run program mem registers state requests
+      → found shown mem registers state ≡ avm-run program mem registers state requests
   unfolding avm-run
   run-1 h a = rw (a, ← l, turned legal h)
 
   module _ (h : not legal ≡ false) where
     pub run-2 : (length registers ≡ register-count → ⊥) → {shown : Answer} → shown ≡ refused 2
-        → run-found shown mem registers state ≡ avm-run program mem registers state requests
+        → found shown mem registers state ≡ avm-run program mem registers state requests
     unfolding avm-run
     run-2 n a = rw (a, ← l, upright legal h, ne-eqb (length registers) register-count n)
 
@@ -37,9 +40,29 @@ module _ (program mem registers state requests : List ℕ) {legal : Bool} (l : l
         → file ≡ registers → lent ≡ micro-state file state → answer ≡ run program mem lent requests .answer
         → after ≡ run program mem lent requests .memory → registers′ ≡ answer .state .registers → state′ ≡ state-words (answer .state)
         → shown ≡ answered (answer .end) (answer .microcycles) (answer .steps)
-        → run-found shown after registers′ state′ ≡ avm-run program mem registers state requests
+        → found shown after registers′ state′ ≡ avm-run program mem registers state requests
     unfolding avm-run
     run-rest n f t a m r w o = rw (o, w, r, a, m, t, f, ← l, upright legal h, eq-eqb (length registers) register-count n)
+
+module _ (mem registers state requests : List ℕ) {legal : Bool} (l : legal ≡ legal-length (length mem)) where
+  pub steps-1 : not legal ≡ true → {shown : Answer} → shown ≡ refused 1 → found shown mem registers state ≡ avm-steps mem registers state requests
+  unfolding avm-steps
+  steps-1 h a = rw (a, ← l, turned legal h)
+
+  module _ (h : not legal ≡ false) where
+    pub steps-2 : (length registers ≡ register-count → ⊥) → {shown : Answer} → shown ≡ refused 2
+        → found shown mem registers state ≡ avm-steps mem registers state requests
+    unfolding avm-steps
+    steps-2 n a = rw (a, ← l, upright legal h, ne-eqb (length registers) register-count n)
+
+    pub steps-rest : length registers ≡ register-count
+        → {file : List ℕ} {lent : MacroState} {answer : MacroAnswer} {after registers′ state′ : List ℕ} {shown : Answer}
+        → file ≡ registers → lent ≡ macro-state file state → answer ≡ macro-run mem lent requests .answer
+        → after ≡ macro-run mem lent requests .memory → registers′ ≡ answer .state .registers → state′ ≡ macro-words (answer .state) state
+        → shown ≡ answered (answer .end) (record { count = 0 }) (answer .steps)
+        → found shown after registers′ state′ ≡ avm-steps mem registers state requests
+    unfolding avm-steps
+    steps-rest n f t a m r w o = rw (o, w, r, a, m, t, f, ← l, upright legal h, eq-eqb (length registers) register-count n)
 
 module _ (program mem registers state latches : List ℕ) (mir phase request : ℕ) {legal : Bool} (l : legal ≡ legal-length (length mem)) where
   pub phase-1 : not legal ≡ true → {shown : Answer} → shown ≡ refused 1

@@ -1,4 +1,4 @@
--- avm_run and avm_phase: what each answers and leaves in every lent place. The calls lend the registers as a list, so they alone can answer
+-- avm_run, avm_steps and avm_phase: what each answers and leaves in every lent place. The calls lend the registers as a list, so they alone can answer
 -- 2, between 1 and 3; all else is the library's. Assumes nothing.
 use Prim.Native.Nat.{ℕ}
 use mathlib.Core.Bool.{cond, not}
@@ -13,6 +13,8 @@ use Rattle.phase_level.specs.declared.machine.PhaseState.{PhaseState}
 use Rattle.phase_level.specs.Call.{PhaseCalled, phase-call}
 use Rattle.micro_level.specs.declared.machine.MicroState.{MicroState}
 use Rattle.micro_level.specs.Run.{MicroCalled, run}
+use Rattle.macro_level.specs.declared.machine.MacroState.{MacroState}
+use Rattle.macro_level.specs.Run.{MacroCalled, run as macro-run}
 use Rattle.grader.specs.declared.Answer.{Answer}
 use Rattle.grader.specs.Answers.{refused, answered}
 
@@ -37,18 +39,18 @@ micro-state registers state =
 abbrev pub state-words : MicroState → List ℕ
 state-words s = s .psw ∷ s .pc ∷ s .ir ∷ s .mar ∷ s .mbr ∷ s .mpc ∷ s .ivec ∷ []
 
--- what avm_run answers and leaves
-pub record RunLeft : Type 0 where
+-- what avm_run and avm_steps answer and leave
+pub record Left : Type 0 where
   pub answer : Answer
   pub memory : List ℕ
   pub registers : List ℕ
   pub state : List ℕ
 
 -- what is found after the call, place by place
-abbrev pub run-found : Answer → List ℕ → List ℕ → List ℕ → RunLeft
-run-found answer mem registers state = record { answer = answer; memory = mem; registers = registers; state = state }
+abbrev pub found : Answer → List ℕ → List ℕ → List ℕ → Left
+found answer mem registers state = record { answer = answer; memory = mem; registers = registers; state = state }
 
-abbrev pub run-left : MicroCalled → RunLeft
+abbrev pub run-left : MicroCalled → Left
 run-left called =
     record {
       answer = answered (called .answer .end) (called .answer .microcycles) (called .answer .steps);
@@ -58,16 +60,40 @@ run-left called =
     }
 
 -- a refusal of the call's own: everything as lent
-abbrev pub run-untouched : ℕ → List ℕ → List ℕ → List ℕ → RunLeft
-run-untouched number mem registers state = run-found (refused number) mem registers state
+abbrev pub untouched : ℕ → List ℕ → List ℕ → List ℕ → Left
+untouched number mem registers state = found (refused number) mem registers state
 
-unfoldable pub avm-run : List ℕ → List ℕ → List ℕ → List ℕ → List ℕ → RunLeft
-avm-run program mem registers state requests =
+-- 1 and 2, then the rest
+abbrev pub tested-first : List ℕ → List ℕ → List ℕ → Left → Left
+tested-first mem registers state rest =
     cond (legal-length (length mem))
-    (cond (eqb (length registers) register-count)
-    (run-left (run program mem (micro-state registers state) requests))
-    (run-untouched 2 mem registers state))
-    (run-untouched 1 mem registers state)
+    (cond (eqb (length registers) register-count) rest (untouched 2 mem registers state))
+    (untouched 1 mem registers state)
+
+unfoldable pub avm-run : List ℕ → List ℕ → List ℕ → List ℕ → List ℕ → Left
+avm-run program mem registers state requests =
+    tested-first mem registers state (run-left (run program mem (micro-state registers state) requests))
+
+-- avm_steps takes PSW, PC and vector from the state words
+abbrev pub macro-state : List ℕ → List ℕ → MacroState
+macro-state registers state = record { registers = registers; psw = getD state 0 0; pc = getD state 1 0; ivec = getD state 6 0 }
+
+-- .. and keeps IR, MAR, MBR and MPC, whatever they are
+abbrev pub macro-words : MacroState → List ℕ → List ℕ
+macro-words s state = s .psw ∷ s .pc ∷ getD state 2 0 ∷ getD state 3 0 ∷ getD state 4 0 ∷ getD state 5 0 ∷ s .ivec ∷ []
+
+abbrev pub steps-left : MacroCalled → List ℕ → Left
+steps-left called state =
+    record {
+      answer = answered (called .answer .end) (record { count = 0 }) (called .answer .steps);
+      memory = called .memory;
+      registers = called .answer .state .registers;
+      state = macro-words (called .answer .state) state;
+    }
+
+unfoldable pub avm-steps : List ℕ → List ℕ → List ℕ → List ℕ → Left
+avm-steps mem registers state requests =
+    tested-first mem registers state (steps-left (macro-run mem (macro-state registers state) requests) state)
 
 -- a phase state from the state words, the latch words (A latch, B latch, request, acknowledge; the last two count as set when not 0), MIR
 -- and the phase number

@@ -2,12 +2,16 @@
 // the library answers. include/schoonleech.h says the same to a C author.
 ghost use mathlib.Core.Path.{_≡_};
 ghost use lib.ListN.{length};
+ghost use Prim.Native.Nat.{_%_};
+ghost use Rattle.phases.specs.Phases.{word-at};
+ghost use Rattle.published.specs.Listing.{published};
 ghost use Rattle.grader.specs.Answers.{refused, answered};
-ghost use Rattle.grader.specs.Calls.{micro-state, state-words, run-found, avm-run};
+ghost use Rattle.grader.specs.Calls.{micro-state, state-words, found, avm-run, macro-state, macro-words, avm-steps};
 ghost use Rattle.grader.specs.Calls.{phase-state, phase-words, latch-words, phase-found, avm-phase};
 use answers::End;
 use answers::Microcycles;
 use answers::Steps;
+use macro_level::machine::MacroState;
 use micro_level::machine::MicroState;
 use phase_level::machine::PhaseState;
 
@@ -98,6 +102,25 @@ fn state_words(s: MicroState) -> [u32; 7]
     [s.psw, s.pc, s.ir, s.mar, s.mbr, s.mpc, s.ivec]
 }
 
+// What the macro level sees of them.
+fn macro_state(registers: [u32; 32], state: &[u32; 7]) -> MacroState
+    ensures { λ r. ⌜ r ≡ macro-state registers (now (state .entry)) ⌝ }
+{
+    MacroState {
+        registers: registers,
+        psw: state[0],
+        pc: state[1],
+        ivec: state[6],
+    }
+}
+
+// The state words again; those of the micro level are kept.
+fn macro_words(s: MacroState, state: &[u32; 7]) -> [u32; 7]
+    ensures { λ r. ⌜ r ≡ macro-words s (now (state .entry)) ⌝ }
+{
+    [s.psw, s.pc, state[2], state[3], state[4], state[5], s.ivec]
+}
+
 // A phase state from everything that a phase call is lent for it.
 fn phase_state(
     registers: [u32; 32],
@@ -146,7 +169,7 @@ pub extern "C" fn avm_run(
     state: &mut [u32; 7],
     requests: &[u8],
 ) -> Answer
-    ensures { λ r. ⌜ run-found r (now (memory .exit)) (now (registers .exit)) (now (state .exit))
+    ensures { λ r. ⌜ found r (now (memory .exit)) (now (registers .exit)) (now (state .exit))
         ≡ avm-run (now (program .entry)) (now (memory .entry)) (now (registers .entry)) (now (state .entry))
         (now (requests .entry)) ⌝ }
 {
@@ -167,6 +190,43 @@ pub extern "C" fn avm_run(
     give_registers(registers, file_after);
     *state = state_words(after);
     answer_of(end, microcycles, steps)
+}
+
+#[no_mangle]
+pub extern "C" fn avm_steps(
+    memory: &mut [u32],
+    registers: &mut [u32],
+    state: &mut [u32; 7],
+    requests: &[u8],
+) -> Answer
+    ensures { λ r. ⌜ found r (now (memory .exit)) (now (registers .exit)) (now (state .exit))
+        ≡ avm-steps (now (memory .entry)) (now (registers .entry)) (now (state .entry)) (now (requests .entry)) ⌝ }
+{
+    if !words::lengths::legal(memory.len()) {
+        return refuse(1);
+    }
+    if registers.len() != 32 {
+        return refuse(2);
+    }
+    let file = take_registers(registers);
+    let lent = macro_state(file, state);
+    let called = macro_level::run::run(memory, lent, requests);
+    let end = called.end;
+    let steps = called.steps;
+    let after = called.state;
+    let file_after = after.registers;
+    give_registers(registers, file_after);
+    *state = macro_words(after, state);
+    let microcycles = Microcycles { count: 0 };
+    answer_of(end, microcycles, steps)
+}
+
+// The published microprogram's word at an address modulo 64.
+#[no_mangle]
+pub extern "C" fn avm_published(address: u64) -> u64
+    ensures { λ r. ⌜ r ≡ word-at published (address % 64) ⌝ }
+{
+    published::word(address)
 }
 
 #[no_mangle]

@@ -15,6 +15,7 @@ use Rattle.answers.specs.declared.End.{End}
 use Rattle.answers.specs.declared.End.the-variants.{Done, MemoryLength, RegisterZero, ProgramLength, Microword, Outside, Request}
 use Rattle.answers.specs.Ends.{is-done, shown}
 use Rattle.answers.specs.Places.{first-place}
+use Rattle.answers.specs.Tests.{lent-test}
 use Rattle.answers.proofs.FirstPlace.{none-in-front}
 use Rattle.microwords.specs.ControlStore.{legal-store-length, lowest-illegal, store-test}
 use Rattle.phase_level.specs.Tests.{machine-test}
@@ -27,14 +28,18 @@ use Rattle.micro_level.proofs.RunsInARow.{as-run}
 
 -- no test answers 8
 tests-never-8 : (words : ℕ) (program : List ℕ) (s : MicroState) (requests : List ℕ) → shown (micro-test words program s requests) .number ≡ 8 → ⊥
-unfolding micro-test machine-test store-test
+unfolding micro-test machine-test lent-test store-test
 tests-never-8 words program s requests e =
     go (legal-length words) (eqb (register (s .registers) 0) 0) (legal-store-length (length program)) (ltb (lowest-illegal program) (length program))
     (ltb (s .mpc) (length program)) (ltb (first-place bad-request requests) (length requests)) e
   where
+    first : Bool → Bool → End
+    first memory zero-register = cond memory (cond zero-register Done RegisterZero) MemoryLength
+
     lent : Bool → Bool → Bool → Bool → End
     lent memory zero-register size words-legal =
-        cond memory (cond zero-register (cond size (cond words-legal (Microword (lowest-illegal program)) Done) ProgramLength) RegisterZero) MemoryLength
+        cond (is-done (first memory zero-register)) (cond size (cond words-legal (Microword (lowest-illegal program)) Done) ProgramLength)
+        (first memory zero-register)
 
     go : (a b c d inside bad : Bool)
         → shown (cond (is-done (lent a b c d)) (cond inside (cond bad (Request (first-place bad-request requests)) Done) Outside) (lent a b c d)) .number ≡ 8 → ⊥

@@ -10,7 +10,7 @@ use Rattle.words.specs.Registers.{register}
 use Rattle.answers.specs.declared.End.{End}
 use Rattle.answers.specs.declared.End.the-variants.{Done, Outside, Request, NextAddress}
 use Rattle.answers.specs.Ends.{is-done}
-use Rattle.answers.specs.Places.{first-place}
+use Rattle.answers.specs.Places.{above, first-place}
 use Rattle.microwords.specs.Sequencer.{fetch-address}
 use Rattle.blocks.specs.Memory.{applied}
 use Rattle.phase_level.specs.Tests.{machine-test, most-request}
@@ -21,8 +21,9 @@ use Rattle.micro_level.specs.declared.run.MicroAnswer.{MicroAnswer}
 use Rattle.micro_level.specs.Machine.{taken, given}
 use Rattle.microcycle.specs.Microcycle.{microcycle, micro-store, leaves}
 
+-- the scope's 7
 abbrev pub bad-request : ℕ → Bool
-bad-request request = ltb most-request request
+bad-request = above most-request
 
 -- 1, 3, 4, 5 of the machine, then MPC inside, then the first bad request
 unfoldable pub micro-test : ℕ → List ℕ → MicroState → List ℕ → End

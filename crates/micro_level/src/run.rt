@@ -1,8 +1,7 @@
 // A run: one microcycle for each request byte.
 ghost use mathlib.Core.Path.{_≡_};
-ghost use Rattle.answers.specs.Places.{first-place};
 ghost use Rattle.micro_level.specs.Machine.{taken, given};
-ghost use Rattle.micro_level.specs.Run.{bad-request, micro-test, run-on, answer-of, run};
+ghost use Rattle.micro_level.specs.Run.{micro-test, run-on, answer-of, run};
 use crate::machine::MicroState;
 use answers::End;
 use answers::Microcycles;
@@ -61,20 +60,6 @@ fn give(m: MicroMachine) -> MicroState
     }
 }
 
-// The first request byte out of range; the length where all are in range.
-fn first_bad(requests: &[u8]) -> usize
-    ensures { λ r. ⌜ r ≡ first-place bad-request (now (requests .entry)) ⌝ }
-{
-    let mut at: usize = 0;
-    while at < requests.len() {
-        if 3 < requests[at] {
-            return at;
-        }
-        at += 1;
-    }
-    at
-}
-
 // What a run is lent, lowest number first.
 fn tested(words: usize, program: &[u64], s: MicroState, requests: &[u8]) -> End
     ensures { λ r. ⌜ r ≡ micro-test words (now (program .entry)) s (now (requests .entry)) ⌝ }
@@ -88,7 +73,7 @@ fn tested(words: usize, program: &[u64], s: MicroState, requests: &[u8]) -> End
     if program.len() <= mpc {
         return End::Outside;
     }
-    let place = first_bad(requests);
+    let place = answers::tests::first_above(3, requests);
     if place < requests.len() {
         return End::Request(place);
     }

@@ -63,6 +63,11 @@ module _ (urom mem : List ℕ) (p : PhaseMachine) (begins : p .phase ≡ 0) (r�
   pub done-alike : seen fourth ≡ microcycle urom mem (seen p) r₁
   done-alike = ap seen is-four ∙ four-phases urom mem p r₁
 
+  -- the phase numbers go round
+  pub begins-again : fourth .phase ≡ 0
+  unfolding phase-four
+  begins-again = ap (λ (q : PhaseMachine). q .phase) is-four
+
   pub refused-alike : phase-leaves (length urom) third ≡ leaves urom (seen p) r₁
   unfolding phase-leaves phase-one phase-two phase-three next-mpc leaves next-address
   refused-alike = ap (phase-leaves (length urom)) is-three

@@ -1,3 +1,4 @@
 -- What the definitions of specs/ mean.
 pub mod StoreTest
 pub mod Conditions
+pub mod SixBits

@@ -5,30 +5,26 @@ use mathlib.Core.Bool.{Bool, true, false, not, _&&_}
 use mathlib.Core.List.{List}
 use lib.Dec.{ltb, leb}
 use lib.ListN.{length}
-use borrow.Author.Tests.{eq-eqb, ne-eqb, le-leb, lt-leb}
-use Rattle.words.specs.Lengths.{legal-length}
+use borrow.Author.Tests.{le-leb, lt-leb}
 use Rattle.words.specs.Registers.{register}
 use Rattle.words.proofs.Cases.{turned, upright}
 use Rattle.answers.specs.declared.End.{End}
-use Rattle.answers.specs.declared.End.the-variants.{Done, MemoryLength, RegisterZero, Microword, Outside, Request}
+use Rattle.answers.specs.declared.End.the-variants.{Done, Microword, Outside, Request}
 use Rattle.answers.specs.Ends.{is-done}
+use Rattle.answers.specs.Tests.{lent-test}
 use Rattle.microwords.specs.Codes.{legal-microword}
 use Rattle.microwords.specs.ControlStore.{store-test}
 use Rattle.phase_level.specs.declared.machine.PhaseState.{PhaseState}
 use Rattle.phase_level.specs.Tests.{machine-test, phase-test, last-phase, most-request}
 
-module _ (words register-0 : ℕ) (program : List ℕ) {legal : Bool} (l : legal ≡ legal-length words) where
-  pub memory-length : not legal ≡ true → machine-test words register-0 program ≡ MemoryLength
+module _ (words register-0 : ℕ) (program : List ℕ) {lent : End} {done : Bool} (e : lent ≡ lent-test words register-0) (d : done ≡ is-done lent) where
+  pub machine-refused : not done ≡ true → machine-test words register-0 program ≡ lent
   unfolding machine-test
-  memory-length h = rw (← l, turned legal h)
+  machine-refused h = rw (← e, ← d, turned done h)
 
-  pub register-zero : not legal ≡ false → (register-0 ≡ 0 → ⊥) → machine-test words register-0 program ≡ RegisterZero
+  pub the-program : not done ≡ false → machine-test words register-0 program ≡ store-test program
   unfolding machine-test
-  register-zero h r = rw (← l, upright legal h, ne-eqb register-0 0 r)
-
-  pub the-program : not legal ≡ false → register-0 ≡ 0 → machine-test words register-0 program ≡ store-test program
-  unfolding machine-test
-  the-program h r = rw (← l, upright legal h, eq-eqb register-0 0 r)
+  the-program h = rw (← e, ← d, upright done h)
 
 module _ (words : ℕ) (program : List ℕ) (s : PhaseState) (request : ℕ) {lent : End} {done : Bool}
     (e : lent ≡ machine-test words (register (s .registers) 0) program) (d : done ≡ is-done lent) where

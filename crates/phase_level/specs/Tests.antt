@@ -2,13 +2,13 @@
 use Prim.Native.Nat.{ℕ}
 use mathlib.Core.Bool.{cond, _&&_}
 use mathlib.Core.List.{List}
-use lib.Dec.{eqb, ltb, leb}
+use lib.Dec.{ltb, leb}
 use lib.ListN.{length}
-use Rattle.words.specs.Lengths.{legal-length}
 use Rattle.words.specs.Registers.{register}
 use Rattle.answers.specs.declared.End.{End}
-use Rattle.answers.specs.declared.End.the-variants.{Done, MemoryLength, RegisterZero, Microword, Outside, Request}
+use Rattle.answers.specs.declared.End.the-variants.{Done, Microword, Outside, Request}
 use Rattle.answers.specs.Ends.{is-done}
+use Rattle.answers.specs.Tests.{lent-test}
 use Rattle.microwords.specs.Codes.{legal-microword}
 use Rattle.microwords.specs.ControlStore.{store-test}
 use Rattle.phase_level.specs.declared.machine.PhaseState.{PhaseState}
@@ -16,7 +16,8 @@ use Rattle.phase_level.specs.declared.machine.PhaseState.{PhaseState}
 -- 1, 3, 4, 5: memory's length, register 0, the microprogram
 unfoldable pub machine-test : ℕ → ℕ → List ℕ → End
 machine-test words register-0 program =
-    cond (legal-length words) (cond (eqb register-0 0) (store-test program) RegisterZero) MemoryLength
+    let lent = lent-test words register-0 in
+    cond (is-done lent) (store-test program) lent
 
 -- the largest request byte: interrupt and reset
 abbrev pub most-request : ℕ

@@ -7,12 +7,9 @@ use answers::End;
 pub fn machine(words: usize, zero: u32, program: &[u64]) -> End
     ensures { λ r. ⌜ r ≡ machine-test words zero (now (program .entry)) ⌝ }
 {
-    let legal = words::lengths::legal(words);
-    if !legal {
-        return End::MemoryLength;
-    }
-    if zero != 0 {
-        return End::RegisterZero;
+    let lent = answers::tests::lent(words, zero);
+    if !answers::done(lent) {
+        return lent;
     }
     microwords::store::tested(program)
 }

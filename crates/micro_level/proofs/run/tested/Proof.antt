@@ -26,7 +26,7 @@ returns-3 c =
     let args = lent .before .before .before .before .args in
     sym
     (request-refused (args .words) (args .program .now) (args .t3) (args .requests .now) (lent .machine .ensures) (tested .done .ensures)
-    (c .before .before .before .if1 .left) (c .before .before .if2 .left) (c .before .first-bad .ensures) (c .if3 .taken))
+    (c .before .before .before .if1 .left) (c .before .before .if2 .left) (c .before .first-above .ensures) (c .if3 .taken))
 
 returns-4 : tie.Need-returns-4
 returns-4 c =
@@ -35,7 +35,7 @@ returns-4 c =
     let args = lent .before .before .before .before .args in
     sym
     (nothing-refused (args .words) (args .program .now) (args .t3) (args .requests .now) (lent .machine .ensures) (tested .done .ensures)
-    (c .before .before .before .if1 .left) (c .before .before .if2 .left) (c .before .first-bad .ensures) (c .if3 .left))
+    (c .before .before .before .if1 .left) (c .before .before .if2 .left) (c .before .first-above .ensures) (c .if3 .left))
 
 pub tested-spec : {M : Type 1} → statement M
 tested-spec =

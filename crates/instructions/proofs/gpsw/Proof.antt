@@ -1,0 +1,15 @@
+-- Each value is what its call ensures.
+use borrow.Author.Needs.{needs}
+use Rattle.instructions.specs.Instructions.{gpsw}
+use Rattle.instructions.proofs.gpsw.Statement.{statement}
+use Rattle.instructions.proofs.gpsw.Tie as tie
+
+returns : tie.Need-returns
+unfolding gpsw
+returns c = rw (c .put .ensures, c .before .to-word .ensures)
+
+pub gpsw-spec : {M : Type 1} → statement M
+gpsw-spec = tie.close (tie.spec
+    (λ c κs. search needs)
+    (λ c κs. search needs)
+    returns)

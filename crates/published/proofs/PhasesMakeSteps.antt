@@ -1,0 +1,123 @@
+-- FROM PHASES TO STEPS, in one statement. Let a machine stand before phase one, at fetch, with the published microprogram, in any state and
+-- with any memory. Over any requests, four phases each: no phase can be refused 8; the phases are the microcycles of the micro level's run,
+-- which is not refused; and where they stand at fetch, they show exactly the steps of the requests that the fetch microcycles saw, as many
+-- as the run made returns.
+use Prim.Native.Nat.{ℕ, _+_, _<_}
+use mathlib.Core.Path.{_≡_, refl, sym, ap, subst, _∙_}
+use mathlib.Core.Bool.{Bool, true, false, _&&_}
+use mathlib.Core.List.{List, [], _∷_}
+use lib.Dec.{eqb, leb}
+use lib.ListN.{length}
+use mir.Val.{boolByte as num}
+use borrow.Author.Tests.{lt-leb}
+use Rattle.words.proofs.FieldBounds.{field-lt}
+use Rattle.microwords.proofs.SixBits.{next-lt}
+use Rattle.blocks.specs.declared.memory.Store.{Store}
+use Rattle.blocks.specs.Memory.{applied}
+use Rattle.datapath.specs.Results.{new-mpc}
+use Rattle.phases.specs.declared.PhaseMachine.{PhaseMachine}
+use Rattle.phases.specs.Phases.{next-mpc}
+use Rattle.phase_level.specs.Tests.{last-phase}
+use Rattle.phase_level.specs.Call.{leaves}
+use Rattle.microcycle.specs.Machine.{seen}
+use Rattle.microcycle.specs.Microcycle.{microcycle, micro-store}
+use Rattle.microcycle.proofs.FourPhases.{first, second, third, fourth, done-alike, stored-alike, begins-again, nothing-stored-earlier}
+use Rattle.micro_level.specs.Run.{RanOn, at-fetch, run-on}
+use Rattle.published.specs.Listing.{published}
+use Rattle.published.specs.Clocks.{shows, heard, Phased, phased, phases}
+use Rattle.published.proofs.NeverLeaves.{sixty-four}
+use Rattle.published.proofs.NeverRefused.{on}
+use Rattle.published.proofs.ReturnsAreSteps.{Steps, steps-of, returns-are-steps}
+
+pub no-phase-leaves : (p : PhaseMachine) → leaves (length published) p ≡ false
+unfolding leaves next-mpc new-mpc
+no-phase-leaves p = by-phase (eqb (p .phase) last-phase)
+  where
+    inside : next-mpc p < length published
+    inside = subst (λ (n : ℕ). next-mpc p < n) (sym sixty-four) (next-lt _ _ _ _ _ _ _ (field-lt (p .mir) 0 6))
+
+    by-phase : (b : Bool) → (b && leb (length published) (next-mpc p)) ≡ false
+    by-phase true = lt-leb (length published) (next-mpc p) inside
+    by-phase false = refl
+
+-- ---- four phases of a request
+module _ (mem : List ℕ) (p : PhaseMachine) (begins : p .phase ≡ 0) (request : ℕ) where
+  abbrev p₁ : PhaseMachine
+  p₁ = first published mem p begins request request request request
+
+  abbrev p₂ : PhaseMachine
+  p₂ = second published mem p begins request request request request
+
+  abbrev p₃ : PhaseMachine
+  p₃ = third published mem p begins request request request request
+
+  abbrev p₄ : PhaseMachine
+  p₄ = fourth published mem p begins request request request request
+
+  abbrev beside : PhaseMachine → Phased
+  beside q = record { machine = q; memory = mem }
+
+  abbrev after : PhaseMachine → Store → Phased
+  after q st = record { machine = q; memory = applied st mem }
+
+  abbrev on-by-one : Phased → Phased
+  on-by-one x = phased published x request
+
+  -- the memory is the same until the fourth
+  three : on-by-one (on-by-one (on-by-one (beside p))) ≡ beside p₃
+  three =
+      let earlier = nothing-stored-earlier published mem p begins request request request request in
+      ap (λ (x : Phased). on-by-one (on-by-one x)) (ap (after p₁) (earlier .0)) ∙ ap on-by-one (ap (after p₂) (earlier .1)) ∙ ap (after p₃) (earlier .2)
+
+  four : on-by-one (on-by-one (on-by-one (on-by-one (beside p)))) ≡ after p₄ (micro-store published (seen p))
+  four = ap on-by-one three ∙ ap (after p₄) (stored-alike published mem p begins request request request request)
+
+-- ---- phases are microcycles
+record Alike (x : Phased) (r : RanOn) : Type 0 where
+  machine : seen (x .machine) ≡ r .ran .machine
+  memory : x .memory ≡ r .memory
+
+alike : (requests mem : List ℕ) (p : PhaseMachine) → p .phase ≡ 0 → (done returns : ℕ)
+    → Alike (phases published (record { machine = p; memory = mem }) requests) (run-on published mem (seen p) done returns requests)
+unfolding phases run-on
+alike [] mem p begins done returns = record { machine = refl; memory = refl }
+alike (request ∷ rest) mem p begins done returns =
+    let next = microcycle published mem (seen p) request in
+    let q = fourth published mem p begins request request request request in
+    let mem′ = applied (micro-store published (seen p)) mem in
+    let same : seen q ≡ next = done-alike published mem p begins request request request request in
+    let there = alike rest mem′ q (begins-again published mem p begins request request request request) (done + 1) (returns + num (at-fetch next)) in
+    let phased-on = ap (λ (x : Phased). phases published x rest) (four mem p begins request) in
+    let run-so = ap (λ s. run-on published mem′ s (done + 1) (returns + num (at-fetch next)) rest) same ∙ sym (on mem (seen p) done returns request rest) in
+    record {
+      machine = ap (λ (x : Phased). seen (x .machine)) phased-on ∙ there .machine ∙ ap (λ (r : RanOn). r .ran .machine) run-so;
+      memory = ap (λ (x : Phased). x .memory) phased-on ∙ there .memory ∙ ap (λ (r : RanOn). r .memory) run-so;
+    }
+
+-- ---- the theorem
+module _ (mem : List ℕ) (p : PhaseMachine) (begins : p .phase ≡ 0) (at-first : at-fetch (seen p) ≡ true) (requests : List ℕ) where
+  abbrev pub ended : Phased
+  ended = phases published (record { machine = p; memory = mem }) requests
+
+  abbrev pub whole : RanOn
+  whole = run-on published mem (seen p) 0 0 requests
+
+  pub record PhasesToSteps : Type 0 where
+    pub same-machine : seen (ended .machine) ≡ whole .ran .machine
+    pub same-memory : ended .memory ≡ whole .memory
+    pub run : Steps mem (seen p) at-first requests
+    pub steps : at-fetch (seen (ended .machine)) ≡ true
+        → shows (ended .memory) (seen (ended .machine)) ≡ steps-of (shows mem (seen p)) (heard published mem (seen p) requests)
+
+  pub phases-make-steps : PhasesToSteps
+  phases-make-steps =
+      let same = alike requests mem p begins 0 0 in
+      let run = returns-are-steps mem (seen p) at-first requests in
+      let shown : shows (ended .memory) (seen (ended .machine)) ≡ shows (whole .memory) (whole .ran .machine) =
+      ap (λ (m : List ℕ). shows m (seen (ended .machine))) (same .memory) ∙ ap (shows (whole .memory)) (same .machine) in
+      record {
+        same-machine = same .machine;
+        same-memory = same .memory;
+        run = run;
+        steps = λ h. shown ∙ run .each-return (sym (ap at-fetch (same .machine)) ∙ h);
+      }

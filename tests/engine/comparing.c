@@ -1,0 +1,75 @@
+#include "comparing.h"
+
+#include <string.h>
+
+#include "drawing.h"
+#include "hand.h"
+
+struct inputs drawn, own;
+
+enum { INTERRUPT_STEP = OP_CODES, STEP_KINDS };
+
+static struct {
+    uint64_t answers[AVM_LEFT_PROGRAM + 1]; /* by number */
+    uint64_t steps[2][STEP_KINDS];          /* by sm and opcode */
+    uint64_t requests_in_vain;              /* with ie clear */
+} seen;
+
+uint64_t compare_cases(uint64_t seed, uint64_t cases, one_case *compare)
+{
+    uint64_t number, compared = 0;
+
+    memset(&seen, 0, sizeof seen);
+    for (number = 0; number < rounds(cases) && holds_so_far(); number++) {
+        struct dice dice = dice_for(seed, number);
+
+        stand_at(seed, number);
+        draw_inputs(&dice, &drawn);
+        compared += compare(&dice, number % 2 == 0 ? AT_END : AT_START);
+    }
+    return compared;
+}
+
+struct both lend_both(enum side side)
+{
+    struct both both;
+
+    own = drawn;
+    both.mine = places_in(&own);
+    both.lent = lend(&drawn, side);
+    return both;
+}
+
+void compare_answers(avm_answer got, avm_answer want)
+{
+    expect_same_answer("engine", got, want);
+    if (want.number < COUNT(seen.answers))
+        seen.answers[want.number]++;
+}
+
+void expect_seen(size_t lowest, size_t highest)
+{
+    size_t number;
+
+    for (number = lowest; number <= highest; number++)
+        expect(seen.answers[number] > 0 || !holds_so_far(), "no case was answered with %zu", number);
+}
+
+void note_step(const struct places *places, bool request)
+{
+    uint32_t psw = places->state[AVM_PSW], word = places->memory[places->state[AVM_PC] % places->m];
+    bool sm = psw & SM, ie = psw & IE;
+
+    seen.steps[sm][request && ie ? INTERRUPT_STEP : word >> 26 & 31]++;
+    seen.requests_in_vain += request && !ie;
+}
+
+void expect_every_step_seen(void)
+{
+    unsigned sm, kind;
+
+    for (sm = 0; sm <= 1; sm++)
+        for (kind = 0; kind < STEP_KINDS; kind++)
+            expect(seen.steps[sm][kind] > 0 || !holds_so_far(), "no step was of kind %u with sm %u", kind, sm);
+    expect(seen.requests_in_vain > 0 || !holds_so_far(), "no request came with ie clear");
+}

@@ -1,0 +1,36 @@
+/* Seeded random comparisons of the engine with the second simulator, every place lent between guard pages. */
+#ifndef ENGINE_COMPARING_H
+#define ENGINE_COMPARING_H
+
+#include "check.h"
+#include "places.h"
+
+/* The inputs of the case that stands, and a copy of them to work on. */
+extern struct inputs drawn, own;
+
+/* Compares the drawn inputs on both, lent on a side; answers how much was compared. */
+typedef uint64_t one_case(struct dice *dice, enum side side);
+
+/* Draws and compares that many cases; answers how much was compared in all. What was seen before is forgotten. */
+uint64_t compare_cases(uint64_t seed, uint64_t cases, one_case *compare);
+
+/* The drawn inputs, lent to the engine and in a copy of one's own. */
+struct both {
+    struct places lent, mine;
+};
+
+struct both lend_both(enum side side);
+
+/* Expects equal answers, and notes the number. */
+void compare_answers(avm_answer got, avm_answer want);
+
+/* A comparison shows something only where each of these answers came. */
+void expect_seen(size_t lowest, size_t highest);
+
+/* Notes the step that these places are about to do with that request. */
+void note_step(const struct places *places, bool request);
+
+/* A comparison of steps shows something only where every instruction and the interrupt step came in both modes, and requests in vain. */
+void expect_every_step_seen(void);
+
+#endif
