@@ -6,14 +6,12 @@ static struct inputs before, after;
 
 static void prepare(uint32_t instruction, uint32_t psw)
 {
-    start_at_instruction(&before, instruction);
-    before.state[AVM_PSW] = psw;
-    after = before;
+    prepare_step(&before, &after, instruction, psw);
 }
 
 static void set_register(unsigned number, uint32_t value)
 {
-    before.registers[number] = after.registers[number] = value;
+    set_both_registers(&before, &after, number, value);
 }
 
 /* Where each code jumps: bit k stands for the flags with the number k, so that z is AAAA, c CCCC, n F0F0 and v FF00. */
@@ -372,7 +370,7 @@ const struct test flow_tests[] = {
     {"the interrupt step needs both the request and ie", no_interrupt_step},
     {"ie that an instruction sets counts from the next step on", ie_set_in_the_step},
     {"ie is tested before the instruction could clear it", ie_cleared_in_the_step},
-    {"a second request waits until ie is set again", one_interrupt_at_a_time},
+    {"a second request is not taken until ie is set again", one_interrupt_at_a_time},
     {"a program of calls and jumps does its 27 steps", a_program},
     {"interrupts in the midst of it cost their own steps and change nothing else", a_program_interrupted},
     {NULL, NULL},

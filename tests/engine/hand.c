@@ -109,6 +109,18 @@ void start_at_instruction(struct inputs *in, uint32_t instruction)
     in->state[AVM_MPC] = 0xFFFFFFFF;
 }
 
+void prepare_step(struct inputs *before, struct inputs *after, uint32_t instruction, uint32_t psw)
+{
+    start_at_instruction(before, instruction);
+    before->state[AVM_PSW] = psw;
+    *after = *before;
+}
+
+void set_both_registers(struct inputs *before, struct inputs *after, unsigned number, uint32_t value)
+{
+    before->registers[number] = after->registers[number] = value;
+}
+
 void ask(struct inputs *in, const char *digits)
 {
     for (in->bytes = 0; digits[in->bytes] != '\0'; in->bytes++)

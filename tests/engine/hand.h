@@ -28,6 +28,10 @@ void start(struct inputs *inputs);
 /* The same with that instruction at PC. MPC is one that only steps take. */
 void start_at_instruction(struct inputs *inputs, uint32_t instruction);
 
+/* The same with that PSW, before a step and, until the test says more, after it; and a register's value in both. */
+void prepare_step(struct inputs *before, struct inputs *after, uint32_t instruction, uint32_t psw);
+void set_both_registers(struct inputs *before, struct inputs *after, unsigned number, uint32_t value);
+
 /* Request bytes by their digits. */
 void ask(struct inputs *inputs, const char *digits);
 

@@ -9,15 +9,13 @@ enum { FLAGS = Z | C | N | V };
 /* PC is 3 before a step, and every instruction here leaves it at 4. */
 static void prepare(uint32_t instruction, uint32_t psw)
 {
-    start_at_instruction(&before, instruction);
-    before.state[AVM_PSW] = psw;
-    after = before;
+    prepare_step(&before, &after, instruction, psw);
     after.state[AVM_PC] = 4;
 }
 
 static void set_register(unsigned number, uint32_t value)
 {
-    before.registers[number] = after.registers[number] = value;
+    set_both_registers(&before, &after, number, value);
 }
 
 /* The instruction 9, 10, 11, with these values in registers 10 and 11. */

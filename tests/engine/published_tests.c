@@ -12,8 +12,8 @@ static void expect_word(uint64_t address, uint64_t want)
     expect(got == want, "word %llu is %010llX, not %010llX", (unsigned long long)address, (unsigned long long)got, (unsigned long long)want);
 }
 
-/* The words that the source prints, packed as program_tests.c shows. */
-static void printed_words(void)
+/* The words that the source prints, packed as program_tests.c shows, and NOOP_u1, which it names. */
+static void known_words(void)
 {
     static const struct { uint64_t address, word; } rows[] = {
         {0, 0x756D8004F1}, /* FETCH   */
@@ -227,7 +227,7 @@ static void requests_at_fetch(void)
 }
 
 const struct test published_tests[] = {
-    {"the published microprogram has the printed words in their places", printed_words},
+    {"the published microprogram has the printed words and NOOP_u1 in their places", known_words},
     {"words 53 to 63 and those of the three no-operations are NOOP_u1, 15 in all", no_operations},
     {"every published word is legal, IACK stands in word 49 alone and FTCH nowhere", every_word},
     {"fields that a published word does not use are as in the printed FETCH", unused_fields},

@@ -69,10 +69,12 @@ struct walk {
     uint8_t at_fetch[REQUESTS_ROOM];
 };
 
-/* Expects what steps show: memory, registers, PSW, PC and IVEC. IR, MAR, MBR and MPC are the microprogram's own. */
+/* The microprogram's own words of the state. */
+static const unsigned not_shown[] = {AVM_IR, AVM_MAR, AVM_MBR, AVM_MPC};
+
+/* Expects what steps show: memory, registers, PSW, PC and IVEC. */
 static void expect_same_step(const char *who, const struct places *lent, const struct places *mine)
 {
-    static const unsigned not_shown[] = {AVM_IR, AVM_MAR, AVM_MBR, AVM_MPC};
     size_t k;
 
     for (k = 0; k < COUNT(not_shown); k++)
@@ -119,6 +121,7 @@ static void walk_by_microcycles(const struct both *both, struct walk *walk)
 static void expect_the_same_in_one_call(const struct walk *walk, enum side side)
 {
     struct places lent = lend(&drawn, side), mine = places_in(&own);
+    size_t k;
 
     lent.bytes = walk->microcycles;
     expect_same_answer("one run", call_run(&engine, &lent), done(walk->microcycles, walk->returns));
@@ -127,6 +130,8 @@ static void expect_the_same_in_one_call(const struct walk *walk, enum side side)
     lent.requests = (uint8_t *)walk->at_fetch;
     lent.bytes = walk->returns;
     expect_same_answer("engine", call_steps(&engine, &lent), done(0, walk->returns));
+    for (k = 0; k < COUNT(not_shown); k++)
+        expect(lent.state[not_shown[k]] == drawn.state[not_shown[k]], "avm_steps changed state word %u", not_shown[k]);
     expect_same_step("engine", &lent, &mine);
 }
 

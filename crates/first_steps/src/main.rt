@@ -23,9 +23,9 @@ fn main() {
     lengths();
 }
 
-// An instruction word: opcode, destination, source A, and source B or the immediate.
-fn instruction(opcode: u32, dest: u32, srca: u32, low: u32) -> u32 {
-    opcode % 64 * 0x400_0000 + dest % 32 * 0x20_0000 + srca % 32 * 0x1_0000 + low % 0x1_0000
+// An instruction word: opcode, destination, source A and the immediate.
+fn instruction(opcode: u32, dest: u32, srca: u32, imm: u32) -> u32 {
+    opcode % 64 * 0x400_0000 + dest % 32 * 0x20_0000 + srca % 32 * 0x1_0000 + imm % 0x1_0000
 }
 
 // In user mode with interrupts on; the supervisor's stack at 13, another at 12.

@@ -1,6 +1,6 @@
 -- The 32 opcodes and the interrupt step: the register transfers of section 5.1.1.3 (pp. 68-75) and the formal JMP, ADD and EINT of section
--- 5.2.6 (pp. 130-136), by the source's names: a, b and d are R[a], R[b] and R[d], ssp is R[ssp], mem is memory. A state's part that a line
--- does not name is kept. Assumes nothing.
+-- 5.2.6 (pp. 130-136), in the source's order. A part of the state that a comment line does not name is kept; `a`, `b`, `d` and `ssp` of the operands are
+-- the values R[a], R[b], R[d] and R[ssp], `dest` is the destination's number. Assumes nothing.
 use Prim.Native.Nat.{ℕ}
 use mathlib.Core.Bool.{Bool, true, false, cond}
 use mathlib.Core.List.{List}
@@ -19,7 +19,7 @@ use Rattle.instructions.specs.declared.Operands.{Operands}
 use Rattle.instructions.specs.declared.Effect.{Effect}
 use Rattle.instructions.specs.Effects.{add, inc, dec, goes, put, mode, zcnv, zn, carry}
 
--- JMP: pc' = JUMP_COND(d, psw) ? R[a] + imm : pc + 1
+-- JMP: pc' = JUMP_COND(dest, psw) ? R[a] + imm : pc + 1
 unfoldable pub jmp : Operands → Effect
 jmp o = goes o (o .psw) (cond (jump-cond (o .dest) (o .psw)) (add (o .a) (o .imm)) (inc (o .pc)))
 
@@ -33,6 +33,18 @@ call o =
       psw = o .psw;
       pc = add (o .a) (o .imm);
       store = Word (o .d) (inc (o .pc));
+    }
+
+-- RTN: pc' = M[R[d] - 1]; R[d]' = R[d] - 1
+unfoldable pub rtn : List ℕ → Operands → Effect
+rtn mem o =
+    record {
+      sm = o .psw .sm;
+      register = o .dest;
+      value = dec (o .d);
+      psw = o .psw;
+      pc = fetch mem (dec (o .d));
+      store = Nothing;
     }
 
 -- what INT and the interrupt step share: sm is set and ie cleared, then SSP moves under the new sm; `back` is pushed
@@ -68,50 +80,38 @@ rti mem o =
       store = Nothing;
     }
 
--- RTN: pc' = M[R[d] - 1]; R[d]' = R[d] - 1
-unfoldable pub rtn : List ℕ → Operands → Effect
-rtn mem o =
-    record {
-      sm = o .psw .sm;
-      register = o .dest;
-      value = dec (o .d);
-      psw = o .psw;
-      pc = fetch mem (dec (o .d));
-      store = Nothing;
-    }
-
--- GPSW: R[d]' = psw
+-- GPSW: R[d]' = psw; pc' = pc + 1
 unfoldable pub gpsw : Operands → Effect
 gpsw o = put o (mk-psw (o .psw)) (o .psw)
 
--- PPSW: psw' = sm(psw) ? R[d] : psw
+-- PPSW: psw' = sm(psw) ? R[d] : psw; pc' = pc + 1
 unfoldable pub ppsw : Operands → Effect
 ppsw o = goes o (cond (o .psw .sm) (get-psw (o .d)) (o .psw)) (inc (o .pc))
 
--- LD and LDI: R[d]' = M[R[a] + offset], the offset being R[b] or imm
+-- LD and LDI: R[d]' = M[R[a] + offset], the offset being R[b] or imm; pc' = pc + 1
 unfoldable pub ld : List ℕ → Operands → ℕ → Effect
 ld mem o offset = put o (fetch mem (add (o .a) offset)) (o .psw)
 
--- ST and STI: M[R[a] + offset]' = R[d]
+-- ST and STI: M[R[a] + offset]' = R[d]; pc' = pc + 1
 unfoldable pub st : Operands → ℕ → Effect
 st o offset =
     record { sm = o .psw .sm; register = 0; value = 0; psw = o .psw; pc = inc (o .pc); store = Word (add (o .a) offset) (o .d) }
 
--- LSL, LSR, ASR: R[d]' = the shifted word; c' = the bit shifted out
+-- LSL, LSR, ASR: R[d]' = the shifted word; c' = the bit shifted out; pc' = pc + 1
 unfoldable pub shift : Operands → ℕ → Bool → Effect
 shift o value out = put o value (carry (o .psw) out)
-
--- ADD, ADDC, SUB, SUBC: R[d]' = the sum or difference; z, c, n, v loaded
-unfoldable pub arithmetic : Operands → AluOutput → Effect
-arithmetic o out = put o (out .value) (zcnv (o .psw) out)
-
--- BAND, BOR, BXOR, BNOT: R[d]' = the value bit by bit; z and n loaded
-unfoldable pub logic : Operands → AluOutput → Effect
-logic o out = put o (out .value) (zn (o .psw) out)
 
 -- NOOP: pc' = pc + 1
 unfoldable pub noop : Operands → Effect
 noop o = goes o (o .psw) (inc (o .pc))
+
+-- ADD, ADDC, SUB, SUBC: R[d]' = the sum or difference; z, c, n, v loaded; pc' = pc + 1
+unfoldable pub arithmetic : Operands → AluOutput → Effect
+arithmetic o out = put o (out .value) (zcnv (o .psw) out)
+
+-- BAND, BOR, BXOR, BNOT: R[d]' = the value bit by bit; z and n loaded; pc' = pc + 1
+unfoldable pub logic : Operands → AluOutput → Effect
+logic o out = put o (out .value) (zn (o .psw) out)
 
 -- opcodes 16 to 30 of table 5.7 (p. 76); 12, 13 and 31 are NOOP
 unfoldable pub computation : ℕ → Operands → Effect
@@ -137,7 +137,7 @@ computation key o =
 abbrev pub eint-key : ℕ
 eint-key = 32
 
--- `macro_inst_list`: by opcode (table 5.7), and entry 32
+-- `macro_inst_list`: by opcode (table 5.7), and entry 32; past it, which nothing chooses, NOOP
 unfoldable pub effect : ℕ → List ℕ → Operands → Effect
 effect key mem o =
     cond (eqb key 0) (jmp o)

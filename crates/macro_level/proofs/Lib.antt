@@ -3,3 +3,4 @@ pub mod StepParts
 pub mod RunTests
 pub mod RunTurns
 pub mod RunCalls
+pub mod Corners

@@ -1,4 +1,4 @@
--- A run at the requests from the i-th on: one step more, or the end. The premises are what a call of the step ensures.
+-- What is left of a run when i bytes are done: a step and then the rest, or nothing. The premises are what a call of the step ensures.
 use Prim.Native.Nat.{ℕ, _+_, _<_}
 use native.Mathlib.Numerals.{add-one}
 use mathlib.Core.Path.{_≡_}

@@ -36,11 +36,11 @@ use Rattle.macro_level.specs.Machine.{given as macro-given}
 use Rattle.macro_level.specs.Step.{Macro}
 use Rattle.macro_level.specs.Run.{MacroCalled, most-request, macro-test, macro-done, run as macro-run}
 use Rattle.published.specs.Listing.{published}
-use Rattle.published.specs.Clocks.{macro-state, shows, heard}
-use Rattle.published.proofs.ReadBack.{taken as store-taken}
+use Rattle.published.specs.Clocks.{macro-state, shows, steps-of, heard}
+use Rattle.published.proofs.ReadBack.{passes}
 use Rattle.published.proofs.NeverLeaves.{sixty-four}
 use Rattle.published.proofs.NeverRefused.{never-refused}
-use Rattle.published.proofs.ReturnsAreSteps.{steps-of, returns-are-steps}
+use Rattle.published.proofs.ReturnsAreSteps.{returns-are-steps}
 
 -- what is heard are bytes 0 and 1
 all-lines : (requests mem : List ℕ) (s : MicroMachine)
@@ -99,7 +99,7 @@ module _ (mem : List ℕ) (s : MicroState) (requests : List ℕ) where
       unfolding machine-test
       tests =
           record {
-            lent = rw (good, store-taken);
+            lent = rw (good, passes);
             inside = subst (λ (k : ℕ). k < length published) (sym at-first) (subst (λ (n : ℕ). 0 < n) (sym sixty-four) (omega arith));
             requests-good = good-requests;
           }

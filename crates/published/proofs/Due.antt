@@ -12,10 +12,10 @@ use Rattle.phases.specs.Phases.{interrupt}
 use Rattle.microcycle.specs.declared.MicroMachine.{MicroMachine}
 use Rattle.microcycle.specs.Microcycle.{microcycle, micro-store}
 use Rattle.micro_level.specs.Run.{at-fetch}
-use Rattle.macro_level.specs.Step.{Macro, selected, step}
+use Rattle.macro_level.specs.Step.{Macro, step}
 use Rattle.published.specs.Listing.{published}
-use Rattle.published.specs.Clocks.{seen, shows, cycles}
-use Rattle.published.proofs.EveryOpcode.{Returned, returned, one-more, first-return, ahead, computed, counted}
+use Rattle.published.specs.Clocks.{macro-machine, shows, key, cycles}
+use Rattle.published.proofs.EveryOpcode.{Returned, returned, one-more, first-return, ahead, computed, cycles-are}
 
 abbrev pub Due : ℕ → List ℕ → MicroMachine → Macro → Type 0
 Due zero mem s m = (at-fetch s ≡ true) × (shows mem s ≡ m)
@@ -50,19 +50,15 @@ due-from (suc n) c mem s m f =
     by-place false q zero ih f = absurd (omega (arith, ap (λ (x : Returned). x .count) (rw (q, first-return) at (f (λ t. 0)))))
     by-place false q (suc c) ih f = (q, λ request. ih c request (λ next. one-less _ m c (rw (q, first-return) at (f (before request next)))))
 
--- the key of the step that a state at fetch takes
-abbrev pub key : List ℕ → MicroMachine → ℕ → ℕ
-key mem s request = selected (interrupt request) (s .psw) (fetch mem (s .pc))
-
 pub record AfterFetch (mem : List ℕ) (s : MicroMachine) (request : ℕ) : Type 0 where
   pub more : ℕ
   pub counts : suc more ≡ cycles (key mem s request)
-  pub due : Due more (applied (micro-store published s) mem) (microcycle published mem s request) (step mem (seen s) (interrupt request))
+  pub due : Due more (applied (micro-store published s) mem) (microcycle published mem s request) (step mem (macro-machine s) (interrupt request))
 
 pub after-fetch : (mem : List ℕ) (s : MicroMachine) → at-fetch s ≡ true → (request : ℕ) → AfterFetch mem s request
 after-fetch mem s q request =
     record {
       more = ahead (interrupt request && s .psw .ie) (fetch mem (s .pc));
-      counts = counted (interrupt request) (s .psw) (fetch mem (s .pc));
+      counts = cycles-are (interrupt request) (s .psw) (fetch mem (s .pc));
       due = due-from 6 _ _ _ _ (λ next. computed mem s request next (eqb-true (s .mpc) fetch-address q));
     }

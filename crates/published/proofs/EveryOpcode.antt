@@ -34,7 +34,7 @@ use Rattle.macro_level.specs.declared.machine.MacroMachine.{MacroMachine}
 use Rattle.macro_level.specs.Step.{Macro, operands, selected, performed, step}
 use Rattle.published.specs.Assembler.{packed}
 use Rattle.published.specs.Listing.{eint-u1-address, listing, published}
-use Rattle.published.specs.Clocks.{seen, shows, own-cycles, cycles}
+use Rattle.published.specs.Clocks.{macro-machine, shows, own-cycles, cycles}
 
 -- what a return shows, where it stands, and the microcycles before it
 pub record Returned : Type 0 where
@@ -110,27 +110,27 @@ chosen false ir mem m next =
     ap (λ (r : Returned). one-more (one-more r))
     (entry 32 (opcode w) (λ k. first-return 4 mem (behind-decode k w m) later) (λ k. returned (stepped k w mem m) (own-cycles k)) (opcodes w mem m later) (opcode-lt w))
 
--- ---- THE STEP: after the microcycle at fetch, the first return comes within six more and shows one step, chosen by the request at fetch
+-- ---- from a state at fetch, over one microcycle with its request and then any others
 module _ (mem : List ℕ) (s : MicroMachine) (request : ℕ) (next : ℕ → ℕ) where
   abbrev Shows : MicroMachine → Type 0
   Shows s′ =
       first-return 6 (applied (micro-store published s′) mem) (microcycle published mem s′ request) next
-      ≡ returned (step mem (seen s) (interrupt request)) (ahead (interrupt request && s .psw .ie) (fetch mem (s .pc)))
+      ≡ returned (step mem (macro-machine s) (interrupt request)) (ahead (interrupt request && s .psw .ie) (fetch mem (s .pc)))
 
   abbrev from : ℕ → MicroMachine
-  from mpc = standing (seen s) (s .pc) (s .ir) (s .mar) (s .mbr) mpc
+  from mpc = standing (macro-machine s) (s .pc) (s .ir) (s .mar) (s .mbr) mpc
 
   from-fetch : Shows (from fetch-address)
   unfolding step selected published listing packed word-at field bit alu added subtracted plain shifter operated shifted a-source b-source new-psw new-reg new-mpc new-ir new-pc new-mbr new-mar new-store next-psw clocked update-reg mpc-unit add-bt6 next-address micro-store microcycle interrupted effect
-  from-fetch = chosen (interrupt request && s .psw .ie) (s .ir) mem (seen s) next
+  from-fetch = chosen (interrupt request && s .psw .ie) (s .ir) mem (macro-machine s) next
 
   pub computed : s .mpc ≡ fetch-address → Shows s
   computed at-first = subst (λ (mpc : ℕ). Shows (from mpc)) (sym at-first) from-fetch
 
 -- the microcycles before it, as `cycles` counts them
-pub counted : (int : Bool) (psw : Psw) (w : ℕ) → suc (ahead (int && psw .ie) w) ≡ cycles (selected int psw w)
+pub cycles-are : (int : Bool) (psw : Psw) (w : ℕ) → suc (ahead (int && psw .ie) w) ≡ cycles (selected int psw w)
 unfolding selected cycles
-counted int psw w = by-choice (int && psw .ie)
+cycles-are int psw w = by-choice (int && psw .ie)
   where
     by-choice : (b : Bool) → suc (ahead b w) ≡ cond (eqb (cond b eint-key (opcode w)) eint-key) 5 (suc (suc (suc (own-cycles (cond b eint-key (opcode w))))))
     by-choice true = refl

@@ -18,9 +18,9 @@ use Rattle.micro_level.specs.Run.{RanOn, at-fetch, run-on}
 use Rattle.macro_level.specs.Step.{Macro, step}
 use Rattle.instructions.specs.Instructions.{eint-key}
 use Rattle.published.specs.Listing.{published}
-use Rattle.published.specs.Clocks.{seen, shows, own-cycles, cycles}
+use Rattle.published.specs.Clocks.{macro-machine, shows, key, own-cycles, cycles}
 use Rattle.published.proofs.NeverRefused.{on, from-here, never-refused}
-use Rattle.published.proofs.Due.{Due, key, AfterFetch, after-fetch}
+use Rattle.published.proofs.Due.{Due, AfterFetch, after-fetch}
 
 -- a step takes at most 7 microcycles
 pub within-7 : (k : ℕ) → cycles k ≤ 7
@@ -73,9 +73,10 @@ module _ (mem : List ℕ) (s : MicroMachine) (at-first : at-fetch s ≡ true) (r
   pub record OneStep : Type 0 where
     pub not-refused : whole .ran .end ≡ Done
     pub microcycles : whole .ran .microcycles .count ≡ cycles (key mem s request)
+    pub at-most-7 : whole .ran .microcycles .count ≤ 7
     pub one-return : whole .ran .steps .count ≡ 1
     pub at-its-end : at-fetch (whole .ran .machine) ≡ true
-    pub one-step : shows (whole .memory) (whole .ran .machine) ≡ step mem (seen s) (interrupt request)
+    pub one-step : shows (whole .memory) (whole .ran .machine) ≡ step mem (macro-machine s) (interrupt request)
 
   behind : AfterFetch mem s request
   behind = after-fetch mem s at-first request
@@ -88,6 +89,7 @@ module _ (mem : List ℕ) (s : MicroMachine) (at-first : at-fetch s ≡ true) (r
       record {
         not-refused = refused .ends;
         microcycles = refused .microcycles ∙ omega (arith, h);
+        at-most-7 = omega (arith, refused .microcycles, h, within-7 (key mem s request));
         one-return = ap (λ (r : RanOn). r .ran .steps .count) same ∙ there .steps;
         at-its-end = ap (λ (r : RanOn). at-fetch (r .ran .machine)) same ∙ there .back;
         one-step = ap (λ (r : RanOn). shows (r .memory) (r .ran .machine)) same ∙ there .shown;

@@ -1,7 +1,7 @@
--- FROM PHASES TO STEPS, in one statement. Let a machine stand before phase one, at fetch, with the published microprogram, in any state and
--- with any memory. Over any requests, four phases each: no phase can be refused 8; the phases are the microcycles of the micro level's run,
--- which is not refused; and where they stand at fetch, they show exactly the steps of the requests that the fetch microcycles saw, as many
--- as the run made returns.
+-- FROM PHASES TO STEPS, in one statement. A machine before phase one and at fetch, in any state and with any memory, does four phases for each
+-- of any requests, with the published microprogram. No phase is ever refused 8. The machine and memory that come of it are those of the micro
+-- level's run over the same requests, about which all of `ReturnsAreSteps` holds; and at fetch they show the macro level's steps, one for each
+-- request that a fetch microcycle saw.
 use Prim.Native.Nat.{ℕ, _+_, _<_}
 use mathlib.Core.Path.{_≡_, refl, sym, ap, subst, _∙_}
 use mathlib.Core.Bool.{Bool, true, false, _&&_}
@@ -24,10 +24,10 @@ use Rattle.microcycle.specs.Microcycle.{microcycle, micro-store}
 use Rattle.microcycle.proofs.FourPhases.{first, second, third, fourth, done-alike, stored-alike, begins-again, nothing-stored-earlier}
 use Rattle.micro_level.specs.Run.{RanOn, at-fetch, run-on}
 use Rattle.published.specs.Listing.{published}
-use Rattle.published.specs.Clocks.{shows, heard, Phased, phased, phases}
+use Rattle.published.specs.Clocks.{shows, steps-of, heard, Phased, phased, phases}
 use Rattle.published.proofs.NeverLeaves.{sixty-four}
 use Rattle.published.proofs.NeverRefused.{on}
-use Rattle.published.proofs.ReturnsAreSteps.{Steps, steps-of, returns-are-steps}
+use Rattle.published.proofs.ReturnsAreSteps.{Steps, returns-are-steps}
 
 pub no-phase-leaves : (p : PhaseMachine) → leaves (length published) p ≡ false
 unfolding leaves next-mpc new-mpc
@@ -103,6 +103,7 @@ module _ (mem : List ℕ) (p : PhaseMachine) (begins : p .phase ≡ 0) (at-first
   whole = run-on published mem (seen p) 0 0 requests
 
   pub record PhasesToSteps : Type 0 where
+    pub no-phase-refused : (q : PhaseMachine) → leaves (length published) q ≡ false
     pub same-machine : seen (ended .machine) ≡ whole .ran .machine
     pub same-memory : ended .memory ≡ whole .memory
     pub run : Steps mem (seen p) at-first requests
@@ -116,6 +117,7 @@ module _ (mem : List ℕ) (p : PhaseMachine) (begins : p .phase ≡ 0) (at-first
       let shown : shows (ended .memory) (seen (ended .machine)) ≡ shows (whole .memory) (whole .ran .machine) =
       ap (λ (m : List ℕ). shows m (seen (ended .machine))) (same .memory) ∙ ap (shows (whole .memory)) (same .machine) in
       record {
+        no-phase-refused = no-phase-leaves;
         same-machine = same .machine;
         same-memory = same .memory;
         run = run;

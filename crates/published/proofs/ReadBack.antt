@@ -21,9 +21,9 @@ pub read-back : map fields published ≡ listing
 unfolding field bit packed listing published
 read-back = refl
 
-pub taken : store-test published ≡ Done
+pub passes : store-test published ≡ Done
 unfolding field bit packed listing published legal-microword legal-store-length store-test first-place
-taken = refl
+passes = refl
 
 -- a control store that a caller fills word by word from the table is the published one
 pub filled : (program : List ℕ) → length program ≡ 64 → ((k : ℕ) → k < 64 → getD program k 0 ≡ word-at published (k % 64)) → program ≡ published

@@ -1,7 +1,7 @@
--- RETURNS ARE STEPS, for any list of requests and so for any count of returns. Let the published microprogram stand at fetch, in any state and
--- with any memory. Over any requests its run is not refused. Where the run stands at fetch again (at each return: take the requests up to
--- it), it shows exactly the steps of the requests that its fetch microcycles saw, in their order, and of no other request. As many of them
--- were seen as returns were made; one more where the run ends between two fetches.
+-- RETURNS ARE STEPS, over any list of requests and so for any count of returns. The published microprogram begins at fetch, in any state and
+-- with any memory. Its run is never refused. To look at one of its returns, take the requests up to it: the run then ends at fetch, and what
+-- it shows is what the macro level shows after a step for each request that a fetch microcycle saw, in their order, and for no other. The
+-- run has counted as many returns as there are such steps; a run that ends between two fetches has one step still under way.
 use Prim.Native.Nat.{ℕ, zero, suc, _+_}
 use native.Mathlib.Nat.{zero-add}
 use native.Mathlib.Omega.{arith}
@@ -20,7 +20,7 @@ use Rattle.micro_level.proofs.RunJoins.{counted, counts-added}
 use Rattle.macro_level.specs.Step.{Macro, step}
 use Rattle.macro_level.specs.Run.{up, steps}
 use Rattle.published.specs.Listing.{published}
-use Rattle.published.specs.Clocks.{seen, shows, line, heard}
+use Rattle.published.specs.Clocks.{macro-machine, shows, line, steps-of, heard}
 use Rattle.published.proofs.NeverRefused.{on, from-here, never-refused}
 use Rattle.published.proofs.Due.{Due, after-fetch}
 
@@ -28,9 +28,6 @@ use Rattle.published.proofs.Due.{Due, after-fetch}
 line-up : (b : Bool) → up (num b) ≡ b
 line-up true = refl
 line-up false = refl
-
-abbrev pub steps-of : Macro → List ℕ → Macro
-steps-of x requests = steps (x .memory) (x .machine) requests
 
 -- what a microcycle hears, at fetch and between
 module _ (mem : List ℕ) (s : MicroMachine) (request : ℕ) (rest : List ℕ) where
@@ -47,10 +44,10 @@ module _ (mem : List ℕ) (s : MicroMachine) (request : ℕ) (rest : List ℕ) w
 
   -- the step that is heard, then those that follow
   stepped : (m : Macro) → shows mem s ≡ m → (at : at-fetch s ≡ true)
-      → steps-of (step mem (seen s) (interrupt request)) later ≡ steps-of m (heard published mem s (request ∷ rest))
+      → steps-of (step mem (macro-machine s) (interrupt request)) later ≡ steps-of m (heard published mem s (request ∷ rest))
   unfolding steps
   stepped m e q =
-      ap (λ (b : Bool). steps-of (step mem (seen s) b) later) (sym (line-up (interrupt request)))
+      ap (λ (b : Bool). steps-of (step mem (macro-machine s) b) later) (sym (line-up (interrupt request)))
       ∙ ap (λ (x : Macro). steps-of x (line request ∷ later)) e ∙ ap (steps-of m) (sym (hears q))
 
 -- where a return is due that shows m, over the requests that follow

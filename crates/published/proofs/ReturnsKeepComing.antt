@@ -13,9 +13,9 @@ use Rattle.micro_level.specs.Run.{RanOn, at-fetch, run-on}
 use Rattle.micro_level.proofs.RunJoins.{counts-added}
 use Rattle.macro_level.specs.Step.{Macro}
 use Rattle.published.specs.Listing.{published}
-use Rattle.published.specs.Clocks.{shows}
+use Rattle.published.specs.Clocks.{shows, key}
 use Rattle.published.proofs.NeverRefused.{on, from-here}
-use Rattle.published.proofs.Due.{Due, key, after-fetch}
+use Rattle.published.proofs.Due.{Due, after-fetch}
 use Rattle.published.proofs.OneReturn.{within-7}
 use Rattle.published.proofs.ReturnsAreSteps.{hears, told}
 

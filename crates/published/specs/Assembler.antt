@@ -1,5 +1,5 @@
--- The microassembler (section 5.2.4.1, pp. 117-124): four functions, one for each group of fields, their mnemonics, and the packing of a
--- microword. A mnemonic that stands for several positions has the position's name in front. Assumes nothing.
+-- The microassembler (section 5.2.4.1, pp. 118-124): its four functions `Oper`, `Set_PSW`, `ExtSig` and `Mpc`, one for each group of fields,
+-- their mnemonics, and the packing of a microword. A mnemonic that can stand in several positions has the position in its name here. Assumes nothing.
 use Prim.Native.Nat.{ℕ, _+_, _*_, _^_}
 use mathlib.Core.Bool.{Bool, true, false}
 use mir.Val.{boolByte as num}
@@ -117,59 +117,75 @@ pub record Operation : Type 0 where
 abbrev pub oper : ℕ → ℕ → ASource → ℕ → ℕ → Special → Operation
 oper trgt shft a alu srcb special = record { trgt = trgt; shft = shft; a = a; alu = alu; srcb = srcb; special = special }
 
--- the PSW group (table 5.16, p. 122): sm, ie, then carry (loaded, and from the ALU), overflow, negative, zero
-pub record Loads : Type 0 where
-  pub sm : Change
-  pub ie : Change
-  pub carry : Bool
+-- the PSW group (table 5.16, p. 121). A carry is loaded from the ALU, from the shifter, or not
+pub record Carry : Type 0 where
+  pub load : Bool
   pub from-alu : Bool
-  pub v : Bool
-  pub n : Bool
-  pub z : Bool
 
+abbrev pub ld-from-alu : Carry
+ld-from-alu = record { load = true; from-alu = true }
+
+abbrev pub ld-from-shifter : Carry
+ld-from-shifter = record { load = true; from-alu = false }
+
+abbrev pub pass-carry : Carry
+pass-carry = record { load = false; from-alu = false }
+
+-- `set_sm`, `set_ie`; `clr_sm`, `clr_ie`; `pass`
 abbrev pub set-it : Change
 set-it = record { set = true; clear = false }
 
-abbrev pub clear-it : Change
-clear-it = record { set = false; clear = true }
+abbrev pub clr-it : Change
+clr-it = record { set = false; clear = true }
 
 abbrev pub pass : Change
 pass = record { set = false; clear = false }
 
--- nothing; all four flags, with the ALU's carry; the shifter's carry alone; n and z alone; sm and ie alone
-abbrev pub pass-all : Loads
-pass-all = record { sm = pass; ie = pass; carry = false; from-alu = false; v = false; n = false; z = false }
+-- `ld_vf`, `ld_nf`, `ld_zf`, and `pass` for a flag
+abbrev pub ld : Bool
+ld = true
 
-abbrev pub ld-zcnv : Loads
-ld-zcnv = record { sm = pass; ie = pass; carry = true; from-alu = true; v = true; n = true; z = true }
+abbrev pub keep : Bool
+keep = false
 
-abbrev pub ld-from-shifter : Loads
-ld-from-shifter = record { sm = pass; ie = pass; carry = true; from-alu = false; v = false; n = false; z = false }
+pub record Status : Type 0 where
+  pub sm : Change
+  pub ie : Change
+  pub carry : Carry
+  pub v : Bool
+  pub n : Bool
+  pub z : Bool
 
-abbrev pub ld-zn : Loads
-ld-zn = record { sm = pass; ie = pass; carry = false; from-alu = false; v = false; n = true; z = true }
+abbrev pub set-psw : Change → Change → Carry → Bool → Bool → Bool → Status
+set-psw sm ie carry v n z = record { sm = sm; ie = ie; carry = carry; v = v; n = n; z = z }
 
-abbrev pub set-psw : Change → Change → Loads
-set-psw sm ie = record { sm = sm; ie = ie; carry = false; from-alu = false; v = false; n = false; z = false }
-
--- the external signals group (table 5.17, p. 122): acknowledge, fetch, read, write
-pub record Signals : Type 0 where
-  pub iack : Bool
-  pub ftch : Bool
+-- the external signals group (table 5.17, p. 122): acknowledge, fetch, and what memory does
+pub record MemoryOperation : Type 0 where
   pub rd : Bool
   pub wr : Bool
 
-abbrev pub no-mem-op : Signals
-no-mem-op = record { iack = false; ftch = false; rd = false; wr = false }
+abbrev pub rd : MemoryOperation
+rd = record { rd = true; wr = false }
 
-abbrev pub rd : Signals
-rd = record { iack = false; ftch = false; rd = true; wr = false }
+abbrev pub wr : MemoryOperation
+wr = record { rd = false; wr = true }
 
-abbrev pub wr : Signals
-wr = record { iack = false; ftch = false; rd = false; wr = true }
+abbrev pub no-mem-op : MemoryOperation
+no-mem-op = record { rd = false; wr = false }
 
-abbrev pub i-ack : Signals
-i-ack = record { iack = true; ftch = false; rd = false; wr = false }
+abbrev pub i-ack : Bool
+i-ack = true
+
+abbrev pub off : Bool
+off = false
+
+pub record Signals : Type 0 where
+  pub iack : Bool
+  pub ftch : Bool
+  pub memory : MemoryOperation
+
+abbrev pub ext-sig : Bool → Bool → MemoryOperation → Signals
+ext-sig iack ftch memory = record { iack = iack; ftch = ftch; memory = memory }
 
 -- the microprogram counter group (table 5.18, p. 123): condition and address
 pub record Sequence : Type 0 where
@@ -184,7 +200,7 @@ abbrev pub dummy : ℕ
 dummy = 0
 
 -- the four groups as one microword
-abbrev pub word : Operation → Loads → Signals → Sequence → Microword
+abbrev pub word : Operation → Status → Signals → Sequence → Microword
 word o p e m =
     record {
       amux = o .a .amux;
@@ -200,15 +216,15 @@ word o p e m =
       csm = p .sm .clear;
       sie = p .ie .set;
       cie = p .ie .clear;
-      ldc = p .carry;
+      ldc = p .carry .load;
       ldv = p .v;
       ldn = p .n;
       ldz = p .z;
-      csrc = p .from-alu;
+      csrc = p .carry .from-alu;
       iack = e .iack;
       ftch = e .ftch;
-      rd = e .rd;
-      wr = e .wr;
+      rd = e .memory .rd;
+      wr = e .memory .wr;
       cond = m .cond;
       addr = m .addr;
     }

@@ -5,7 +5,7 @@ use mathlib.Core.Bool.{cond, _||_}
 use mathlib.Core.List.{List, [], _∷_}
 use lib.Dec.{eqb}
 use mir.Val.{boolByte as num}
-use Rattle.blocks.specs.Memory.{applied}
+use Rattle.blocks.specs.Memory.{fetch, applied}
 use Rattle.phases.specs.declared.PhaseMachine.{PhaseMachine}
 use Rattle.phases.specs.Phases.{interrupt}
 use Rattle.phase_level.specs.Call.{phase-done, stores}
@@ -16,11 +16,12 @@ use Rattle.micro_level.specs.Run.{at-fetch}
 use Rattle.instructions.specs.Instructions.{eint-key}
 use Rattle.macro_level.specs.declared.machine.MacroState.{MacroState}
 use Rattle.macro_level.specs.declared.machine.MacroMachine.{MacroMachine}
-use Rattle.macro_level.specs.Step.{Macro}
+use Rattle.macro_level.specs.Step.{Macro, selected}
+use Rattle.macro_level.specs.Run.{steps}
 
 -- what the macro level sees of a micro state (`Micro_Substate`, pp. 130-137)
-abbrev pub seen : MicroMachine → MacroMachine
-seen s = record { registers = s .registers; psw = s .psw; pc = s .pc; ivec = s .ivec }
+abbrev pub macro-machine : MicroMachine → MacroMachine
+macro-machine s = record { registers = s .registers; psw = s .psw; pc = s .pc; ivec = s .ivec }
 
 -- .. of the state as a caller lends it
 abbrev pub macro-state : MicroState → MacroState
@@ -28,13 +29,21 @@ macro-state s = record { registers = s .registers; psw = s .psw; pc = s .pc; ive
 
 -- .. and of memory beside it
 abbrev pub shows : List ℕ → MicroMachine → Macro
-shows mem s = record { machine = seen s; memory = mem }
+shows mem s = record { machine = macro-machine s; memory = mem }
 
 -- the interrupt line of a microcycle's request as a step's request byte
 abbrev pub line : ℕ → ℕ
 line request = num (interrupt request)
 
--- of the requests of a run, those of the microcycles that begin at fetch: no other is ever looked at
+-- steps from a machine with its memory, one for each byte
+abbrev pub steps-of : Macro → List ℕ → Macro
+steps-of x requests = steps (x .memory) (x .machine) requests
+
+-- the entry of the step that a state at fetch takes
+abbrev pub key : List ℕ → MicroMachine → ℕ → ℕ
+key mem s request = selected (interrupt request) (s .psw) (fetch mem (s .pc))
+
+-- of the requests of a run, those of the microcycles that begin at fetch
 unfoldable pub heard : List ℕ → List ℕ → MicroMachine → List ℕ → List ℕ
 heard program mem s [] = []
 heard program mem s (request ∷ rest) =
