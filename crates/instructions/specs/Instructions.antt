@@ -1,6 +1,6 @@
 -- The 32 opcodes and the interrupt step: the register transfers of section 5.1.1.3 (pp. 68-75) and the formal JMP, ADD and EINT of section
--- 5.2.6 (pp. 130-136), in the source's order. A part of the state that a comment line does not name is kept; `a`, `b`, `d` and `ssp` of the operands are
--- the values R[a], R[b], R[d] and R[ssp], `dest` is the destination's number. Assumes nothing.
+-- 5.2.6 (pp. 130-136), in the source's order. A part of the state that a comment line does not name is kept. Of the operands, `a`, `b`, `d` and
+-- `ssp` are the values R[a], R[b], R[d] and R[ssp], and `dest` is the destination's number. Assumes nothing.
 use Prim.Native.Nat.{ℕ}
 use mathlib.Core.Bool.{Bool, true, false, cond}
 use mathlib.Core.List.{List}

@@ -1,7 +1,7 @@
 -- The published microprogram by its fields. Chapter 5 prints FETCH, ISSUE, DECODE, JMP_u1 and ADD_u1 (pp. 124-126) and names NOOP_u1; the other
 -- words stand in a report that is not at hand, and are built here from the register transfers (pp. 68-75) and EINT (pp. 130-136), in the
 -- places that are known: one word an opcode from 4 to 35, the interrupt routine at 49, 53 words in all and a store of 64 whose last is
--- NOOP_u1. docs/MICROPROGRAM.md has the same as a table. Assumes nothing.
+-- NOOP_u1. How 36 to 48 and 50 to 52 are shared out is ours. docs/MICROPROGRAM.md has the same as a table. Assumes nothing.
 use Prim.Native.Nat.{ℕ}
 use mathlib.Core.List.{List, [], _∷_, map}
 use Rattle.microwords.specs.declared.microword.Microword.{Microword}
