@@ -30,7 +30,8 @@ extern "C" {
 
 /* Numbers of an answer. Numbers 1 to 7 are tested before anything is done, the lowest first, and the first that applies is the answer:
    all lent places are then as lent. After 8 the completed microcycles of a run stay; see each call. avm_steps has no microprogram and no
-   phase, so it never answers 4, 5, 6 or 8. */
+   phase, so it never answers 4, 5, 6 or 8. avm_check is lent a microprogram alone and runs nothing: it tests 4, 5, 17 and 18, in that
+   order, and no other call answers 17 or 18. */
 enum {
     AVM_DONE = 0,                 /* nothing was refused                                                                    */
     AVM_BAD_MEMORY_LENGTH = 1,    /* m is not a power of two from AVM_WORDS_FEWEST to AVM_WORDS_MOST                        */
@@ -40,7 +41,9 @@ enum {
     AVM_BAD_MICROWORD = 5,        /* a microword has a bit above 39 set or a code that no table names; at: the lowest such  */
     AVM_OUTSIDE = 6,              /* MPC is not below words, or the phase number is above 3                                 */
     AVM_BAD_REQUEST = 7,          /* a request byte is above 3, or for avm_steps above 1; at: the first such place          */
-    AVM_LEFT_PROGRAM = 8          /* a microcycle would give a next address that is not below words                         */
+    AVM_LEFT_PROGRAM = 8,         /* a microcycle would give a next address that is not below words                         */
+    AVM_WALK_LEAVES = 17,         /* a walk can leave the microprogram; at: the lowest word of a walk from which it can     */
+    AVM_WALK_NOT_BACK = 18        /* a walk is not back after 64 microcycles; at: the lowest word on which one then stands  */
 };
 
 /* Two clocks, two types: a count on one can't be taken for a count on the other. */
@@ -50,8 +53,9 @@ typedef struct { uint64_t count; } avm_instructions;     /* a count on the instr
 /* What a call returns. A field that the call does not name for this number is 0. Words and places are counted from 0. */
 typedef struct {
     uint64_t number;               /* AVM_DONE, or why the call was refused                                                 */
-    uint64_t at;                   /* with 5 the word, with 7 the place in the request bytes                                */
-    avm_microcycles microcycles;   /* of avm_run with 0 and 8: the microcycles that it completed                            */
+    uint64_t at;                   /* with 5, 17 and 18 the word, with 7 the place in the request bytes                     */
+    avm_microcycles microcycles;   /* of avm_run with 0 and 8: the microcycles that it completed;
+                                      of avm_check with 0: the length of the longest walk                                   */
     avm_instructions steps;        /* of avm_run with 0 and 8: returns to fetch, those of them after which MPC is AVM_FETCH;
                                       of avm_steps with 0: the steps that it did                                            */
 } avm_answer;
@@ -141,6 +145,36 @@ avm_answer avm_phase(const uint64_t *program, size_t words, uint32_t *memory, si
 avm_answer avm_steps(uint32_t *memory, size_t m, uint32_t *registers, size_t count, uint32_t state[AVM_STATE], const uint8_t *requests,
                      size_t bytes);
 
+/* Checks a microprogram without running it: is it back at fetch within a known number of microcycles, whatever it is run on?
+
+   program, words    the microprogram, one microword each; only read
+
+   The possible next addresses of a word follow from its COND and ADDR. Which of them a run takes depends on the opcode, the latched
+   request, ie and sm. Here each of these may have any value at any word, whatever it was a word earlier:
+
+       COND 0  step   the next word, that is the word's own address + 1; after 63 comes 0
+            1  jmp    ADDR
+            2  jop    each address from 4 to 35
+            3  jint   ADDR and the next word
+            4  jsm    ADDR and the next word
+
+   A walk starts at AVM_FETCH, goes to a possible next address in each microcycle, and ends as soon as it is back at AVM_FETCH. Its length
+   is its number of microcycles: where word 0 leads to 0 alone, the one walk has length 1. A word on no walk matters for 5 alone.
+
+   Number 0: accepted. microcycles is the length of the longest walk, from 1 to 64. That promises something of avm_run: a run of this
+   program with MPC at AVM_FETCH is never answered with 8, and it is back at AVM_FETCH after at most that many microcycles, counted from the
+   start and from each return. Memory, registers, the rest of the state and the request bytes can be any that avm_run takes.
+   Numbers 4 and 5: refused as by avm_run.
+   Number 17: a walk can leave the microprogram. at is the lowest word that a walk reaches and that has a possible next address which is not
+   below words.
+   Number 18: no walk can leave, but one is not back after 64 microcycles: it goes in a circle. at is the lowest word on which such a walk
+   stands after exactly 64 microcycles, which need not be the lowest word of the circle.
+
+   A walk may be one that no run takes: sm may be set by one word and taken as clear by a jsm right after it. So all runs may be back sooner
+   than the longest walk, and a program may be refused for a walk that no run would take.
+   The program is as lent after every number. steps is 0, and where the program is refused microcycles is 0 too. */
+avm_answer avm_check(const uint64_t *program, size_t words);
+
 /* The published microprogram: the microword at an address, which is taken modulo AVM_PROGRAM_MOST. It is lent nothing and refuses nothing.
 
    It is a table of AVM_PROGRAM_MOST words, all of them good. To run it, make an array of it and lend that to avm_run or avm_phase:
@@ -154,7 +188,7 @@ avm_answer avm_steps(uint32_t *memory, size_t m, uint32_t *registers, size_t cou
    A run of it with MPC at AVM_FETCH is never answered with 8, and its returns to fetch show exactly the steps of avm_steps. After the n-th
    return memory, registers, PSW, PC and IVEC are those that avm_steps leaves after n steps from the same start. The n-th step's byte is the
    interrupt bit of the request byte of the n-th microcycle that stood at fetch; all other request bytes change nothing.
-   A step takes 4 microcycles, but CALL and INT 7, RTI, RTN, LD, LDI, ST and STI 6, and the interrupt step 5. */
+   A step takes 4 microcycles, but CALL and INT 7, RTI, RTN, LD, LDI, ST and STI 6, and the interrupt step 5. avm_check accepts it with 7. */
 uint64_t avm_published(uint64_t address);
 
 #ifdef __cplusplus

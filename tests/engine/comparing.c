@@ -10,12 +10,12 @@ struct inputs drawn, own;
 enum { INTERRUPT_STEP = OP_CODES, STEP_KINDS };
 
 static struct {
-    uint64_t answers[AVM_LEFT_PROGRAM + 1]; /* by number */
-    uint64_t steps[2][STEP_KINDS];          /* by sm and opcode */
-    uint64_t requests_in_vain;              /* with ie clear */
+    uint64_t answers[AVM_WALK_NOT_BACK + 1]; /* by number */
+    uint64_t steps[2][STEP_KINDS];           /* by sm and opcode */
+    uint64_t requests_in_vain;               /* with ie clear */
 } seen;
 
-uint64_t compare_cases(uint64_t seed, uint64_t cases, one_case *compare)
+uint64_t compare_drawn(uint64_t seed, uint64_t cases, one_draw *draw, one_case *compare)
 {
     uint64_t number, compared = 0;
 
@@ -24,10 +24,15 @@ uint64_t compare_cases(uint64_t seed, uint64_t cases, one_case *compare)
         struct dice dice = dice_for(seed, number);
 
         stand_at(seed, number);
-        draw_inputs(&dice, &drawn);
+        draw(&dice, &drawn);
         compared += compare(&dice, number % 2 == 0 ? AT_END : AT_START);
     }
     return compared;
+}
+
+uint64_t compare_cases(uint64_t seed, uint64_t cases, one_case *compare)
+{
+    return compare_drawn(seed, cases, draw_inputs, compare);
 }
 
 struct both lend_both(enum side side)
@@ -53,6 +58,11 @@ void expect_seen(size_t lowest, size_t highest)
 
     for (number = lowest; number <= highest; number++)
         expect(seen.answers[number] > 0 || !holds_so_far(), "no case was answered with %zu", number);
+}
+
+uint64_t times_seen(size_t number)
+{
+    return seen.answers[number];
 }
 
 void note_step(const struct places *places, bool request)

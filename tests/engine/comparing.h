@@ -8,11 +8,17 @@
 /* The inputs of the case that stands, and a copy of them to work on. */
 extern struct inputs drawn, own;
 
+/* Draws the inputs of a case. What it does not draw is left over from the case before, so no comparison may read that. */
+typedef void one_draw(struct dice *dice, struct inputs *inputs);
+
 /* Compares the drawn inputs on both, lent on a side; answers how much was compared. */
 typedef uint64_t one_case(struct dice *dice, enum side side);
 
 /* Draws and compares that many cases; answers how much was compared in all. What was seen before is forgotten. */
 uint64_t compare_cases(uint64_t seed, uint64_t cases, one_case *compare);
+
+/* The same with another way to draw than draw_inputs. */
+uint64_t compare_drawn(uint64_t seed, uint64_t cases, one_draw *draw, one_case *compare);
 
 /* The drawn inputs, lent to the engine and in a copy of one's own. */
 struct both {
@@ -26,6 +32,9 @@ void compare_answers(avm_answer got, avm_answer want);
 
 /* A comparison shows something only where each of these answers came. */
 void expect_seen(size_t lowest, size_t highest);
+
+/* How many cases were answered with that number. */
+uint64_t times_seen(size_t number);
 
 /* Notes the step that these places are about to do with that request. */
 void note_step(const struct places *places, bool request);

@@ -78,6 +78,15 @@ struct microword idle(void)
     return word;
 }
 
+void lead(struct inputs *in, size_t place, unsigned cond, unsigned addr)
+{
+    struct microword word = idle();
+
+    word.cond = cond;
+    word.addr = addr;
+    in->program[place] = pack(word);
+}
+
 void start(struct inputs *in)
 {
     size_t k;
@@ -158,6 +167,11 @@ avm_answer refused(uint64_t number, uint64_t at)
     return answer;
 }
 
+avm_answer accepted(uint64_t microcycles)
+{
+    return done(microcycles, 0);
+}
+
 static const struct implementation *const both[] = {&engine, &simulator};
 
 static void expect_outcome(const char *who, avm_answer got, avm_answer want, const struct places *places, const struct inputs *after)
@@ -210,6 +224,18 @@ void check_phase(const struct inputs *before, const struct inputs *after, avm_an
 void check_steps(const struct inputs *before, const struct inputs *after, avm_answer want)
 {
     check(STEPS, before, after, want, 0);
+}
+
+void check_walks(const struct inputs *store, avm_answer want)
+{
+    int who, side;
+
+    for (who = 0; who < 2; who++)
+        for (side = 0; side < SIDES; side++) {
+            struct places places = lend_program(store, side);
+
+            expect_same_answer(both[who]->name, call_check(both[who], &places), want);
+        }
 }
 
 void check_instruction(struct inputs *before, struct inputs *after)

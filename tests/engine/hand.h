@@ -15,6 +15,9 @@ uint64_t pack(struct microword fields);
 /* NOOP_u1: nothing but a jump to word 0. */
 struct microword idle(void);
 
+/* An idle word in that place of the program, but with that condition and address. */
+void lead(struct inputs *inputs, size_t place, unsigned cond, unsigned addr);
+
 /* Instruction words by their format (figure 5.1, p. 66). Bits that a format does not use are set: they mean nothing. */
 uint32_t format_1(unsigned opcode, unsigned dest, unsigned srca, unsigned srcb);
 uint32_t format_2(unsigned opcode, unsigned dest, unsigned srca, uint32_t imm);
@@ -41,16 +44,21 @@ void publish(struct inputs *inputs);
 avm_answer done(uint64_t microcycles, uint64_t steps);
 avm_answer left(uint64_t microcycles, uint64_t steps);
 avm_answer refused(uint64_t number, uint64_t at);
+avm_answer accepted(uint64_t microcycles);
 
 /* Expect the answer and the final content of every place, of the engine and of the second simulator, on both sides of a guard page. */
 void check_run(const struct inputs *before, const struct inputs *after, avm_answer want);
 void check_phase(const struct inputs *before, const struct inputs *after, avm_answer want, uint8_t request);
 void check_steps(const struct inputs *before, const struct inputs *after, avm_answer want);
 
+/* Expects avm_check's answer of both, on both sides of a guard page. Nothing is lent but the program, which can't be written. */
+void check_walks(const struct inputs *store, avm_answer want);
+
 /* One step, and the same with bit 31 of the instruction word turned round: that bit is ignored. Both inputs come back with it so. */
 void check_instruction(struct inputs *before, struct inputs *after);
 
 extern const struct test word_tests[], program_tests[], phase_tests[], refusal_tests[], random_tests[];
 extern const struct test instruction_tests[], flow_tests[], step_refusal_tests[], published_tests[], random_step_tests[];
+extern const struct test walk_tests[], walk_refusal_tests[], random_walk_tests[];
 
 #endif

@@ -10,7 +10,8 @@ static int limits_fit(void)
 static int numbers_fit(void)
 {
     return AVM_DONE == 0 && AVM_BAD_MEMORY_LENGTH == 1 && AVM_BAD_REGISTER_COUNT == 2 && AVM_REGISTER_0_NOT_ZERO == 3 &&
-           AVM_BAD_PROGRAM_LENGTH == 4 && AVM_BAD_MICROWORD == 5 && AVM_OUTSIDE == 6 && AVM_BAD_REQUEST == 7 && AVM_LEFT_PROGRAM == 8;
+           AVM_BAD_PROGRAM_LENGTH == 4 && AVM_BAD_MICROWORD == 5 && AVM_OUTSIDE == 6 && AVM_BAD_REQUEST == 7 && AVM_LEFT_PROGRAM == 8 &&
+           AVM_WALK_LEAVES == 17 && AVM_WALK_NOT_BACK == 18;
 }
 
 static int places_fit(void)
@@ -68,7 +69,26 @@ static int published_fits(void)
     return answer.number == AVM_DONE && answer.steps.count == 1 && state[AVM_PC] == 1 && avm_published(UINT64_MAX) == program[63];
 }
 
+/* It is back after 7 microcycles at most. Without word 52, where two of its routines end, it can leave. */
+static int check_fits(void)
+{
+    uint64_t program[AVM_PROGRAM_MOST];
+    avm_answer answer;
+    size_t k;
+
+    for (k = 0; k < AVM_PROGRAM_MOST; k++)
+        program[k] = avm_published(k);
+    answer = avm_check(program, AVM_PROGRAM_MOST);
+    if (answer.number != AVM_DONE || answer.at != 0 || answer.microcycles.count != 7 || answer.steps.count != 0)
+        return 0;
+    answer = avm_check(program, 52);
+    if (answer.number != AVM_WALK_LEAVES || answer.at != 42 || answer.microcycles.count != 0)
+        return 0;
+    answer = avm_check(NULL, 0);
+    return answer.number == AVM_BAD_PROGRAM_LENGTH;
+}
+
 int main(void)
 {
-    return limits_fit() && numbers_fit() && places_fit() && calls_fit() && steps_fit() && published_fits() ? 0 : 1;
+    return limits_fit() && numbers_fit() && places_fit() && calls_fit() && steps_fit() && published_fits() && check_fits() ? 0 : 1;
 }

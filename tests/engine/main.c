@@ -11,7 +11,10 @@ int main(void)
     run_tests(flow_tests);
     run_tests(step_refusal_tests);
     run_tests(published_tests);
+    run_tests(walk_tests);
+    run_tests(walk_refusal_tests);
     run_tests(random_tests);
     run_tests(random_step_tests);
+    run_tests(random_walk_tests);
     return report();
 }

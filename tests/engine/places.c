@@ -11,8 +11,8 @@
 #include "../simulator/simulator.h"
 #include "check.h"
 
-const struct implementation engine = {"engine", avm_run, avm_phase, avm_steps};
-const struct implementation simulator = {"second simulator", sim_run, sim_phase, sim_steps};
+const struct implementation engine = {"engine", avm_run, avm_phase, avm_steps, avm_check};
+const struct implementation simulator = {"second simulator", sim_run, sim_phase, sim_steps, sim_check};
 
 avm_answer call_run(const struct implementation *implementation, const struct places *p)
 {
@@ -28,6 +28,11 @@ avm_answer call_phase(const struct implementation *implementation, const struct 
 avm_answer call_steps(const struct implementation *implementation, const struct places *p)
 {
     return implementation->steps(p->memory, p->m, p->registers, p->count, p->state, p->requests, p->bytes);
+}
+
+avm_answer call_check(const struct implementation *implementation, const struct places *p)
+{
+    return implementation->check(p->program, p->words);
 }
 
 struct places places_in(struct inputs *inputs)
@@ -98,11 +103,18 @@ static void *lend_area(struct area *area, const void *bytes, size_t length, enum
     return length == 0 && side == AT_START ? NULL : area->place;
 }
 
-struct places lend(const struct inputs *in, enum side side)
+struct places lend_program(const struct inputs *in, enum side side)
 {
-    struct places places;
+    struct places places = {.words = in->words};
 
     places.program = lend_area(&areas[PROGRAM], in->program, in->words * sizeof in->program[0], side);
+    return places;
+}
+
+struct places lend(const struct inputs *in, enum side side)
+{
+    struct places places = lend_program(in, side);
+
     places.memory = lend_area(&areas[MEMORY], in->memory, in->m * sizeof in->memory[0], side);
     places.registers = lend_area(&areas[REGISTERS], in->registers, in->count * sizeof in->registers[0], side);
     places.state = lend_area(&areas[STATE], in->state, sizeof in->state, side);
@@ -110,7 +122,6 @@ struct places lend(const struct inputs *in, enum side side)
     places.mir = lend_area(&areas[MIR], &in->mir, sizeof in->mir, side);
     places.phase = lend_area(&areas[PHASE], &in->phase, sizeof in->phase, side);
     places.requests = lend_area(&areas[REQUESTS], in->requests, in->bytes, side);
-    places.words = in->words;
     places.m = in->m;
     places.count = in->count;
     places.bytes = in->bytes;

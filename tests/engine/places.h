@@ -32,7 +32,7 @@ struct places {
     size_t words, m, count, bytes;
 };
 
-/* Something that answers the three calls: the engine, or the second simulator. */
+/* Something that answers the calls: the engine, or the second simulator. */
 struct implementation {
     const char *name;
     avm_answer (*run)(const uint64_t *program, size_t words, uint32_t *memory, size_t m, uint32_t *registers, size_t count,
@@ -41,6 +41,7 @@ struct implementation {
                         uint32_t *state, uint32_t *latches, uint64_t *mir, uint32_t *phase, uint8_t request);
     avm_answer (*steps)(uint32_t *memory, size_t m, uint32_t *registers, size_t count, uint32_t *state, const uint8_t *requests,
                         size_t bytes);
+    avm_answer (*check)(const uint64_t *program, size_t words);
 };
 
 extern const struct implementation engine, simulator;
@@ -48,6 +49,7 @@ extern const struct implementation engine, simulator;
 avm_answer call_run(const struct implementation *implementation, const struct places *places);
 avm_answer call_phase(const struct implementation *implementation, const struct places *places, uint8_t request);
 avm_answer call_steps(const struct implementation *implementation, const struct places *places);
+avm_answer call_check(const struct implementation *implementation, const struct places *places);
 
 /* The inputs' own arrays as places. */
 struct places places_in(struct inputs *inputs);
@@ -57,6 +59,9 @@ struct places places_in(struct inputs *inputs);
    length is NULL on one side and points at the guard page on the other. Lending again takes the earlier places away. */
 enum side { AT_END, AT_START, SIDES };
 struct places lend(const struct inputs *inputs, enum side side);
+
+/* The program alone, for the call that takes nothing else; it costs a fraction of lending all. */
+struct places lend_program(const struct inputs *inputs, enum side side);
 
 /* Expects that the pattern around the places of the last lend is whole. */
 void expect_nothing_beyond(const char *who);

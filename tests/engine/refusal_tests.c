@@ -127,6 +127,7 @@ static void check_microword(uint64_t word, bool legal)
     for (place = 1; place < 6; place += 2) {
         start_to_refuse();
         before.program[place] = word;
+        check_walks(&before, legal ? accepted(1) : refused(5, place));
         if (legal)
             both_take();
         else
@@ -325,8 +326,8 @@ const struct test refusal_tests[] = {
     {"of all M from 0 to 32768 exactly the eleven powers of two are taken", every_memory_length},
     {"1, 2, 3 and 4 are answered for lengths and register 0, with everything as lent", lengths_and_register_0},
     {"a zero length may come with NULL", no_length_with_null},
-    {"5 is answered for exactly the codes without a mnemonic, in the program and in MIR", codes_without_a_mnemonic},
-    {"5 is answered for every unused bit", unused_bits},
+    {"5 is answered for exactly the codes without a mnemonic, in the program and in MIR, by avm_check too", codes_without_a_mnemonic},
+    {"5 is answered for every unused bit, by avm_check too", unused_bits},
     {"5 names the lowest bad word, MIR being the word after the last", the_lowest_bad_word},
     {"6 is answered for any MPC or phase number outside, also with no bytes", outside},
     {"7 names the first request byte above 3, and 0 in a phase call", bad_requests},

@@ -56,16 +56,16 @@ void phase_three(struct machine *now)
     now->clk = 3;
 }
 
-/* MPC_UNIT, pp. 103-110. Addresses have 6 bits, so the word after 63 is 0. */
-static uint32_t next_address(const struct machine *old, const struct microword *mir, struct psw psw)
+/* Addresses have 6 bits, so the word after 63 is 0. Of the opcode five bits count. */
+uint32_t mpc_unit(uint32_t mpc, unsigned opcode, unsigned addr, unsigned cond, bool ireq_ff, bool ie, bool sm)
 {
-    uint32_t next_word = (old->mpc + 1) % 64;
+    uint32_t next_word = (mpc + 1) % 64;
 
-    switch (mir->cond) {
-    case COND_JMP: return mir->addr;
-    case COND_JOP: return OPCODE_TABLE + instruction_fields(old->ir).opcode % 32;
-    case COND_JINT: return old->ireq_ff && psw.ie ? mir->addr : next_word;
-    case COND_JSM: return psw.sm ? mir->addr : next_word;
+    switch (cond) {
+    case COND_JMP: return addr;
+    case COND_JOP: return OPCODE_TABLE + opcode % 32;
+    case COND_JINT: return ireq_ff && ie ? addr : next_word;
+    case COND_JSM: return sm ? addr : next_word;
     default: return next_word;
     }
 }
@@ -90,23 +90,23 @@ bool phase_four(struct machine *now, const struct store *store)
     const struct machine old = *now;
     const struct microword mir = microword_fields(old.mir);
     const struct psw psw = psw_fields(old.psw);
-    const unsigned dest = instruction_fields(old.ir).dest;
+    const struct instruction ir = instruction_fields(old.ir);
     const struct alu_answer answer = alu(mir.alu, mir.amux ? old.mbr : old.alatch, old.blatch, psw.c);
     const struct shifter_answer shifted = shifter(mir.shft, answer.result);
     const uint32_t result = shifted.result;
-    const uint32_t next = next_address(&old, &mir, psw);
+    const uint32_t next = mpc_unit(old.mpc, ir.opcode, mir.addr, mir.cond, old.ireq_ff, psw.ie, psw.sm);
     uint32_t *addressed = &store->memory[old.mar % store->m];
 
     if (next >= store->words)
         return false;
     now->psw = new_psw(&mir, psw, answer, shifted);
     if (mir.trgt == TRGT_REG_FILE)
-        update_register(now->reg, psw, dest, result);
+        update_register(now->reg, psw, ir.dest, result);
     if (mir.trgt == TRGT_SSP)
         update_register(now->reg, psw, SSP, result);
     now->mpc = next;
     now->ir = mir.trgt == TRGT_IR ? result : old.ir;
-    now->pc = mir.trgt == TRGT_PC || (mir.trgt == TRGT_PCJ && jump_cond(dest, psw)) ? result : old.pc;
+    now->pc = mir.trgt == TRGT_PC || (mir.trgt == TRGT_PCJ && jump_cond(ir.dest, psw)) ? result : old.pc;
     now->mbr = mir.rd ? *addressed : mir.mbr ? result : old.mbr;
     now->mar = mir.mar && !mir.pmux ? result : old.mar;
     if (mir.wr)

@@ -24,6 +24,9 @@ struct machine {
     uint32_t clk;
 };
 
+/* The sequencer, pp. 103-110, with its arguments in the source's order. */
+uint32_t mpc_unit(uint32_t mpc, unsigned opcode, unsigned addr, unsigned cond, bool ireq_ff, bool ie, bool sm);
+
 void phase_one(struct machine *now, const struct store *store, bool int_e);
 void phase_two(struct machine *now);
 void phase_three(struct machine *now);

@@ -3,6 +3,7 @@
 #include "instructions.h"
 #include "microword.h"
 #include "phases.h"
+#include "walks.h"
 #include "words.h"
 
 static avm_answer numbered(uint64_t number, uint64_t at)
@@ -22,7 +23,7 @@ static bool is_power_of_two_in_range(size_t m)
     return false;
 }
 
-/* Numbers 1 to 3 of the scope, the lowest first: every call has these. */
+/* Numbers 1 to 3 of the scope, the lowest first, for the calls that have a machine. */
 static avm_answer test_machine(size_t m, const uint32_t *registers, size_t count)
 {
     if (!is_power_of_two_in_range(m))
@@ -34,20 +35,24 @@ static avm_answer test_machine(size_t m, const uint32_t *registers, size_t count
     return numbered(AVM_DONE, 0);
 }
 
-/* And 4 and 5, for the calls that have a microprogram. */
+/* Numbers 4 and 5, for the calls that have a microprogram. */
+static avm_answer test_program(const uint64_t *program, size_t words)
+{
+    size_t word;
+
+    if (words < 1 || words > 64)
+        return numbered(AVM_BAD_PROGRAM_LENGTH, 0);
+    for (word = 0; word < words; word++)
+        if (!microword_is_legal(program[word]))
+            return numbered(AVM_BAD_MICROWORD, word);
+    return numbered(AVM_DONE, 0);
+}
+
 static avm_answer test_lent(const struct store *store, const uint32_t *registers, size_t count)
 {
     avm_answer answer = test_machine(store->m, registers, count);
-    size_t word;
 
-    if (answer.number != AVM_DONE)
-        return answer;
-    if (store->words < 1 || store->words > 64)
-        return numbered(AVM_BAD_PROGRAM_LENGTH, 0);
-    for (word = 0; word < store->words; word++)
-        if (!microword_is_legal(store->urom[word]))
-            return numbered(AVM_BAD_MICROWORD, word);
-    return numbered(AVM_DONE, 0);
+    return answer.number != AVM_DONE ? answer : test_program(store->urom, store->words);
 }
 
 static avm_answer test_requests(const uint8_t *requests, size_t bytes, uint8_t highest)
@@ -203,5 +208,27 @@ avm_answer sim_steps(uint32_t *memory, size_t m, uint32_t *registers, size_t cou
     state[AVM_PSW] = psw_word(machine.psw);
     state[AVM_PC] = machine.pc;
     answer.steps.count = bytes;
+    return answer;
+}
+
+/* Numbers 17 and 18 of the scope, and the longest walk. */
+avm_answer sim_check(const uint64_t *program, size_t words)
+{
+    static struct walks walks;
+    avm_answer answer = test_program(program, words);
+    size_t word, microcycles;
+
+    if (answer.number != AVM_DONE)
+        return answer;
+    find_walks(&walks, program, words);
+    for (word = 0; word < words; word++)
+        if (walks.reached[word] && can_leave(&walks, word))
+            return numbered(AVM_WALK_LEAVES, word);
+    for (word = 0; word < words; word++)
+        if (walks.stands[64][word])
+            return numbered(AVM_WALK_NOT_BACK, word);
+    for (microcycles = 1; microcycles <= 64; microcycles++)
+        if (walks.ends[microcycles])
+            answer.microcycles.count = microcycles;
     return answer;
 }

@@ -1,10 +1,11 @@
--- No two ends have the same number and the same value with it, so the number and value shown tell which end it was.
+-- No two ends have the same number and the same value with it, so the number and value shown tell which end it was; and no other end than
+-- done counts as done.
 use mathlib.Core.Path.{_≡_, refl, sym, ap, _∙_}
 use Rattle.answers.specs.declared.End.{End}
-use Rattle.answers.specs.declared.End.the-variants.{Done, MemoryLength, RegisterZero, ProgramLength, Microword, Outside, Request, NextAddress}
+use Rattle.answers.specs.declared.End.the-variants.{Done, MemoryLength, RegisterZero, ProgramLength, Microword, Outside, Request, NextAddress, WalkLeaves, WalkNotBack}
 use Rattle.answers.specs.declared.Numbered.{Numbered}
-use Rattle.answers.specs.Ends.{shown}
-use mathlib.Core.Bool.{cond}
+use Rattle.answers.specs.Ends.{shown, is-done}
+use mathlib.Core.Bool.{true, cond}
 use lib.Dec.{eqb}
 
 -- the end that a number and its value belong to
@@ -17,7 +18,9 @@ end-of n =
     (cond (eqb (n .number) 5) (Microword (n .at))
     (cond (eqb (n .number) 6) Outside
     (cond (eqb (n .number) 7) (Request (n .at))
-    NextAddress))))))
+    (cond (eqb (n .number) 8) NextAddress
+    (cond (eqb (n .number) 17) (WalkLeaves (n .at))
+    (WalkNotBack (n .at))))))))))
 
 back : (end : End) → end-of (shown end) ≡ end
 back Done = refl
@@ -28,6 +31,11 @@ back (Microword word) = refl
 back Outside = refl
 back (Request place) = refl
 back NextAddress = refl
+back (WalkLeaves word) = refl
+back (WalkNotBack word) = refl
 
 pub one-number-an-end : (a b : End) → shown a ≡ shown b → a ≡ b
 one-number-an-end a b same = sym (back a) ∙ ap end-of same ∙ back b
+
+pub only-done-is-done : (end : End) → is-done end ≡ true → end ≡ Done
+only-done-is-done end t = sym (back end) ∙ rw t

@@ -27,6 +27,8 @@ pub enum End {
     Outside,
     Request(usize),
     NextAddress,
+    WalkLeaves(usize),
+    WalkNotBack(usize),
 }
 
 // A number of the scope's table, and what goes with it.
@@ -53,6 +55,14 @@ pub fn shown(end: End) -> Numbered
             at: place as u64,
         },
         End::NextAddress => Numbered { number: 8, at: 0 },
+        End::WalkLeaves(word) => Numbered {
+            number: 17,
+            at: word as u64,
+        },
+        End::WalkNotBack(word) => Numbered {
+            number: 18,
+            at: word as u64,
+        },
     }
 }
 

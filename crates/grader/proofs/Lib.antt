@@ -2,3 +2,4 @@
 pub mod ElementwiseCopy
 pub mod CallCases
 pub mod AsLent
+pub mod OneCheckFits

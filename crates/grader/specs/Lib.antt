@@ -1,3 +1,4 @@
 -- The C calls, as include/schoonleech.h declares them.
 pub mod Answers
 pub mod Calls
+pub mod Checks

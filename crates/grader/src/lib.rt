@@ -6,6 +6,7 @@ ghost use Prim.Native.Nat.{_%_};
 ghost use Rattle.phases.specs.Phases.{word-at};
 ghost use Rattle.published.specs.Listing.{published};
 ghost use Rattle.grader.specs.Answers.{refused, answered};
+ghost use Rattle.grader.specs.Checks.{CheckAnswer};
 ghost use Rattle.grader.specs.Calls.{micro-state, state-words, found, avm-run, macro-state, macro-words, avm-steps};
 ghost use Rattle.grader.specs.Calls.{phase-state, phase-words, latch-words, phase-found, avm-phase};
 use answers::End;
@@ -219,6 +220,17 @@ pub extern "C" fn avm_steps(
     *state = macro_words(after, state);
     let microcycles = Microcycles { count: 0 };
     answer_of(end, microcycles, steps)
+}
+
+#[no_mangle]
+pub extern "C" fn avm_check(program: &[u64]) -> Answer
+    ensures { λ r. ⌜ CheckAnswer (now (program .entry)) r ⌝ }
+{
+    let checked = checker::check(program);
+    let end = checked.end;
+    let longest = checked.longest;
+    let none = Steps { count: 0 };
+    answer_of(end, longest, none)
 }
 
 // The published microprogram's word at an address modulo 64.

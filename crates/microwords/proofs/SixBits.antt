@@ -1,6 +1,8 @@
--- A next address has six bits, if the address field has.
-use Prim.Native.Nat.{ℕ, _+_, _^_, _<_}
+-- A next address has six bits, if the address field has; and of the counter only the low six are read.
+use Prim.Native.Nat.{ℕ, _+_, _%_, _^_, _<_}
 use native.Mathlib.Nat.{mod-lt}
+use native.Mathlib.Omega.{arith}
+use mathlib.Core.Path.{_≡_}
 use lib.Pow.{pow-pos}
 use mathlib.Core.Bool.{Bool, true, false, cond, _&&_}
 use lib.Dec.{eqb}
@@ -32,3 +34,11 @@ module _ (mpc opc addr code : ℕ) (ireq ie sm : Bool) (h : addr < 2 ^ 6) where
       by-code false false false true m = next (ireq && ie)
       by-code false false false false true = next sm
       by-code false false false false false = sum-lt mpc 1
+
+sum-low : (a n : ℕ) → add-bt6 (a % 2 ^ 6) n ≡ add-bt6 a n
+unfolding add-bt6
+sum-low a n = omega arith
+
+pub next-low : (mpc opc addr code : ℕ) (ireq ie sm : Bool) → mpc-unit (mpc % 2 ^ 6) opc addr code ireq ie sm ≡ mpc-unit mpc opc addr code ireq ie sm
+unfolding mpc-unit
+next-low mpc opc addr code ireq ie sm = rw (sum-low mpc 1)

@@ -2,16 +2,20 @@
 -- done exactly when every word is legal.
 use Prim.Native.Nat.{ℕ, _<_, _≤_}
 use native.Mathlib.Omega.{arith}
-use mathlib.Core.Path.{_≡_}
-use mathlib.Core.Bool.{true, false, not}
+use mathlib.Core.Path.{_≡_, refl, ap}
+use mathlib.Core.Bool.{Bool, true, false, false≢true, not, cond, _&&_}
 use mathlib.Core.List.{List}
+use lib.Dec.{ltb, leb}
 use lib.ListN.{length, getD}
-use borrow.Author.Tests.{lt-ltb, le-ltb}
+use borrow.Author.Tests.{lt-ltb, le-ltb, ltb-true}
 use Rattle.words.proofs.Cases.{turned, upright}
+use Rattle.answers.specs.declared.End.{End}
 use Rattle.answers.specs.declared.End.the-variants.{Done, ProgramLength, Microword}
+use Rattle.answers.specs.Ends.{shown, is-done}
 use Rattle.answers.proofs.FirstPlace.{bad-there, good-before}
 use Rattle.microwords.specs.Codes.{legal-microword}
-use Rattle.microwords.specs.ControlStore.{legal-store-length, illegal, lowest-illegal, store-test}
+use Rattle.microwords.specs.ControlStore.{most-microwords, legal-store-length, illegal, lowest-illegal, store-test}
+use Rattle.microwords.specs.Sequencer.{fetch-address}
 
 module _ (program : List ℕ) where
   pub bad-length : not (legal-store-length (length program)) ≡ true → store-test program ≡ ProgramLength
@@ -36,3 +40,25 @@ lowest program h = (turned _ (bad-there illegal program h), λ k l. upright _ (g
 -- where no word is illegal, each is legal
 pub each-legal : (program : List ℕ) → length program ≤ lowest-illegal program → (k : ℕ) → k < length program → legal-microword (getD program k 0) ≡ true
 each-legal program h k l = upright _ (good-before illegal program k (omega arith))
+
+-- a store that passes has a word at fetch
+pub some-word : (program : List ℕ) → store-test program ≡ Done → fetch-address < length program
+unfolding store-test legal-store-length
+some-word program e = by-length (ltb fetch-address (length program)) (ltb-true fetch-address (length program)) (leb (length program) most-microwords) e
+  where
+    words : End
+    words = cond (ltb (lowest-illegal program) (length program)) (Microword (lowest-illegal program)) Done
+
+    by-length : (b : Bool) → (b ≡ true → fetch-address < length program) → (c : Bool) → cond (b && c) words ProgramLength ≡ Done → fetch-address < length program
+    by-length true f c e = f refl
+    by-length false f c e = absurd (false≢true (ap is-done e))
+
+-- the test gives no number but 0, 4 and 5
+pub at-most-5 : (program : List ℕ) → shown (store-test program) .number ≤ 5
+unfolding store-test
+at-most-5 program = by-tests (legal-store-length (length program)) (ltb (lowest-illegal program) (length program))
+  where
+    by-tests : (b c : Bool) → shown (cond b (cond c (Microword (lowest-illegal program)) Done) ProgramLength) .number ≤ 5
+    by-tests true true = omega arith
+    by-tests true false = omega arith
+    by-tests false c = omega arith

@@ -1,0 +1,169 @@
+/* Checks a second of avm_check and of a plain C checker, on the same microprograms in the same process; see bench/README.md. */
+#define _POSIX_C_SOURCE 200809L
+
+#include <stdbool.h>
+#include <stdio.h>
+#include <stdlib.h>
+#include <time.h>
+
+#include "plain_check.h"
+
+enum { STEP, JMP, JOP, JINT, JSM };
+enum { REPETITIONS = 21 };
+
+static const double shortest_repetition = 0.01; /* seconds: long against what one reading of the clock costs */
+
+typedef avm_answer checker(const uint64_t *program, size_t words);
+
+static uint64_t word(unsigned cond, unsigned addr)
+{
+    return UINT64_C(0x742D800000) | cond << 6 | addr;
+}
+
+static void fill_published(uint64_t *program)
+{
+    unsigned k;
+
+    for (k = 0; k < 64; k++)
+        program[k] = avm_published(k);
+}
+
+/* 0, 1, .. 63 and back. */
+static void fill_one_walk(uint64_t *program)
+{
+    unsigned k;
+
+    for (k = 0; k < 64; k++)
+        program[k] = word(STEP, 0);
+}
+
+/* After one microcycle walks stand on 4 to 35, and from the second on all words but fetch: 4 to 34 lead to 36 to 63 and to 1, 2 and 3 by
+   their addresses, to 5 to 35 by going on, and jop to 4. */
+static void fill_full(uint64_t *program)
+{
+    unsigned k;
+
+    for (k = 0; k < 64; k++)
+        program[k] = word(JOP, 0);
+    for (k = 4; k <= 31; k++)
+        program[k] = word(k % 2 == 0 ? JINT : JSM, k + 32);
+    for (k = 32; k <= 34; k++)
+        program[k] = word(JINT, k - 31);
+}
+
+/* Walks stand on 4 to 35 all the time, and each word has all of these as next addresses. */
+static void fill_jop(uint64_t *program)
+{
+    unsigned k;
+
+    for (k = 0; k < 64; k++)
+        program[k] = word(JOP, 0);
+}
+
+static const struct row {
+    const char *name;
+    void (*fill)(uint64_t *program);
+    avm_answer answer; /* what the row is made for */
+} rows[] = {
+    {"the published microprogram", fill_published, {AVM_DONE, 0, {7}, {0}}},
+    {"one walk of 64", fill_one_walk, {AVM_DONE, 0, {64}, {0}}},
+    {"63 words at once, 64 rounds", fill_full, {AVM_WALK_NOT_BACK, 1, {0}, {0}}},
+    {"32 words at once, each to all 32", fill_jop, {AVM_WALK_NOT_BACK, 4, {0}, {0}}},
+};
+
+static bool same(avm_answer a, avm_answer b)
+{
+    return a.number == b.number && a.at == b.at && a.microcycles.count == b.microcycles.count && a.steps.count == b.steps.count;
+}
+
+static void fail(const struct row *row, const char *what)
+{
+    printf("bench: %s: %s\n", row->name, what);
+    exit(1);
+}
+
+static double now(void)
+{
+    struct timespec time;
+
+    clock_gettime(CLOCK_PROCESS_CPUTIME_ID, &time);
+    return (double)time.tv_sec + (double)time.tv_nsec / 1e9;
+}
+
+/* Seconds for that many checks. Each answer is compared, so that none is left out. */
+static double seconds(checker *check, const struct row *row, const uint64_t *program, unsigned long checks)
+{
+    double start = now();
+    unsigned long k, wrong = 0;
+
+    for (k = 0; k < checks; k++)
+        wrong += !same(check(program, 64), row->answer);
+    if (wrong > 0)
+        fail(row, "an answer changed while it was measured");
+    return now() - start;
+}
+
+/* As many as the faster one needs for a repetition that is long enough. */
+static unsigned long enough_checks(const struct row *row, const uint64_t *program)
+{
+    unsigned long checks = 64;
+
+    while (seconds(plain_check, row, program, checks) < shortest_repetition ||
+           seconds(avm_check, row, program, checks) < shortest_repetition)
+        checks *= 2;
+    return checks;
+}
+
+static int compare_doubles(const void *a, const void *b)
+{
+    double x = *(const double *)a, y = *(const double *)b;
+
+    return (x > y) - (x < y);
+}
+
+static double median(double *numbers)
+{
+    qsort(numbers, REPETITIONS, sizeof numbers[0], compare_doubles);
+    return numbers[REPETITIONS / 2];
+}
+
+/* Proved and plain in turn, so that what disturbs the machine for a while disturbs both. */
+static void measure(const struct row *row, const uint64_t *program)
+{
+    double proved[REPETITIONS], plain[REPETITIONS], ratio[REPETITIONS], middle;
+    unsigned long checks = enough_checks(row, program);
+    int k;
+
+    for (k = 0; k < REPETITIONS; k++) {
+        proved[k] = seconds(avm_check, row, program, checks);
+        plain[k] = seconds(plain_check, row, program, checks);
+        ratio[k] = proved[k] / plain[k];
+    }
+    middle = median(ratio);
+    printf("%-34s %12.0f %12.0f %7.2f  (%.2f to %.2f)\n", row->name, (double)checks / median(proved), (double)checks / median(plain),
+           middle, ratio[0], ratio[REPETITIONS - 1]);
+}
+
+static void compare(const struct row *row, const uint64_t *program)
+{
+    avm_answer proved = avm_check(program, 64), plain = plain_check(program, 64);
+
+    if (!same(proved, plain))
+        fail(row, "the proved checker and plain C answer differently");
+    if (!same(proved, row->answer))
+        fail(row, "both answer something else than the row is made for");
+}
+
+int main(void)
+{
+    uint64_t program[64];
+    const struct row *row;
+
+    printf("%-34s %12s %12s   proved's time / plain C's\n", "checks a second of 64 words", "proved", "plain C");
+    for (row = rows; row < rows + sizeof rows / sizeof rows[0]; row++) {
+        row->fill(program);
+        compare(row, program);
+        measure(row, program);
+    }
+    return 0;
+}

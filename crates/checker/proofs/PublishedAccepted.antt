@@ -1,0 +1,21 @@
+-- THE PUBLISHED MICROPROGRAM IS ACCEPTED WITH 7: the checker's own verdict, computed once over the table.
+use mathlib.Core.Path.{_≡_, refl, subst}
+use lib.ListN.{length}
+use lib.Count.{trailingZeros}
+use Rattle.words.specs.Words.{field, bit}
+use Rattle.answers.specs.Places.{first-place}
+use Rattle.microwords.specs.Codes.{legal-microword}
+use Rattle.microwords.specs.ControlStore.{legal-store-length, store-test}
+use Rattle.microwords.specs.Sequencer.{add-bt6, mpc-unit}
+use Rattle.published.specs.Assembler.{packed}
+use Rattle.published.specs.Listing.{listing, published}
+use Rattle.checker.specs.Meaning.{acceptance, Meant}
+use Rattle.checker.specs.Survey.{alone, union, next-set, spread, advance, survey, passes, first-leaving, verdict}
+use Rattle.checker.proofs.Verdicts.{verdict-meant}
+
+computed : verdict published ≡ acceptance 7
+unfolding verdict store-test legal-store-length first-place legal-microword published listing packed field bit mpc-unit add-bt6 alone union next-set spread advance survey passes first-leaving
+computed = refl
+
+pub published-accepted : Meant published (acceptance 7)
+published-accepted = subst (Meant published) computed (verdict-meant published)

@@ -1,0 +1,3 @@
+pub mod Walks
+pub mod Meaning
+pub mod Survey
