@@ -13,6 +13,7 @@ int main(void)
     run_tests(published_tests);
     run_tests(walk_tests);
     run_tests(walk_refusal_tests);
+    run_tests(stack_tests);
     run_tests(random_tests);
     run_tests(random_step_tests);
     run_tests(random_walk_tests);

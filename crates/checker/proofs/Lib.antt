@@ -12,5 +12,5 @@ pub mod OneAnswerFits
 pub mod VerdictCases
 pub mod BackInTime
 pub mod PublishedAccepted
-pub mod Examples
+pub mod WorkedExamples
 pub mod ExactlyWhen

@@ -18,8 +18,7 @@ use Rattle.checker.specs.declared.Survey.{Survey}
 use Rattle.checker.specs.Walks.{Leads, PossibleNext, UnderWay, Walk}
 use Rattle.checker.specs.Walks.UnderWay.{begun, on}
 use Rattle.checker.specs.Walks.Walk.{returned}
-use Rattle.checker.specs.Meaning.{most-microcycles}
-use Rattle.checker.specs.Survey.{union, in-lowest, spread, microcycles, start, advance, survey}
+use Rattle.checker.specs.Survey.{union, in-lowest, spread, microcycles, start, advance, survey, rounds, surveyed}
 use Rattle.checker.proofs.Sets.{has, has-none, has-union, union-lt}
 use Rattle.checker.proofs.PossibleNexts.{one-of, or-right}
 use Rattle.checker.proofs.NextOfSet.{spread-from, spread-has, from-nowhere, spread-lt}
@@ -174,6 +173,6 @@ module _ (program : List ℕ) where
       by-test true f rest = sym (stays (suc n) k (f refl))
       by-test false f rest = rest
 
-  pub starts : survey program most-microcycles 0 start ≡ survey program most-microcycles 0 (after 0)
+  pub surveyed-is : surveyed program ≡ after rounds
   unfolding after
-  starts = refl
+  surveyed-is = survey-is rounds 0

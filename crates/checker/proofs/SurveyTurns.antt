@@ -16,8 +16,7 @@ use Rattle.microwords.specs.Microword.{fields}
 use Rattle.microwords.specs.Codes.{jop}
 use Rattle.microwords.proofs.SixBits.{next-low}
 use Rattle.checker.specs.declared.Survey.{Survey}
-use Rattle.checker.specs.Meaning.{most-microcycles}
-use Rattle.checker.specs.Survey.{extreme, alone, opcode-words, union, next-set, in-lowest, joined, spread, microcycles, advance, survey, passes, first-leaving}
+use Rattle.checker.specs.Survey.{extreme, alone, opcode-words, union, next-set, in-lowest, joined, spread, microcycles, advance, survey, rounds, passes, first-leaving}
 
 -- ---- of a word's address the low six bits are read
 next-set-low : (a w : ℕ) → next-set (a % 2 ^ 6) w ≡ next-set a w
@@ -88,12 +87,12 @@ module _ (program : List ℕ) (s : Survey) where
   advances done e f = rw (f, e)
 
   module _ (done : ℕ) where
-    pub walks-on : {next : Survey} → done < most-microcycles → (s .standing ≡ 0 → ⊥) → next ≡ advance program (microcycles (done + 1)) s
-        → survey program (most-microcycles - done) done s ≡ survey program (most-microcycles - (done + 1)) (done + 1) next
+    pub walks-on : {next : Survey} → done < rounds → (s .standing ≡ 0 → ⊥) → next ≡ advance program (microcycles (done + 1)) s
+        → survey program (rounds - done) done s ≡ survey program (rounds - (done + 1)) (done + 1) next
     unfolding survey
     walks-on l h e = ap (λ (left : ℕ). survey program left done s) one-more ∙ rw (ne-eqb (s .standing) 0 h, e)
       where
-        one-more : most-microcycles - done ≡ suc (most-microcycles - (done + 1))
+        one-more : rounds - done ≡ suc (rounds - (done + 1))
         one-more = omega arith
 
     pub none-under-way : (left : ℕ) → s .standing ≡ 0 → survey program left done s ≡ s
@@ -101,9 +100,9 @@ module _ (program : List ℕ) (s : Survey) where
     none-under-way zero h = refl
     none-under-way (suc left) h = rw h
 
-    pub all-done : most-microcycles ≤ done → survey program (most-microcycles - done) done s ≡ s
+    pub all-done : rounds ≤ done → survey program (rounds - done) done s ≡ s
     unfolding survey
     all-done l = ap (λ (left : ℕ). survey program left done s) none
       where
-        none : most-microcycles - done ≡ 0
+        none : rounds - done ≡ 0
         none = omega arith

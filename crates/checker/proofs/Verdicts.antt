@@ -28,7 +28,7 @@ use Rattle.checker.specs.Meaning.Meant.{illegal, leaves, not-back, accep
 use Rattle.checker.specs.Survey.{passes, lowest-leaving, surveyed, judged, verdict}
 use Rattle.checker.proofs.Sets.{has, has-none, lowest-is-in, lowest-is-least}
 use Rattle.checker.proofs.PossibleNexts.{passes-leads, leads-passes}
-use Rattle.checker.proofs.Standing.{after, standing-under-way, under-way-standing, seen-stood, stood-seen, longest-walk, none-longer, standing-lt, survey-is, starts}
+use Rattle.checker.proofs.Standing.{after, standing-under-way, under-way-standing, seen-stood, stood-seen, longest-walk, none-longer, standing-lt, surveyed-is}
 use Rattle.checker.proofs.ReachedEarly.{reached-early}
 use Rattle.checker.proofs.LowestLeaving.{lowest-leaves, none-lower}
 use Rattle.checker.proofs.WalksGoOn.{passed-through, comes-back}
@@ -42,7 +42,7 @@ module _ (program : List ℕ) where
   lowest = lowest-leaving program (found .seen)
 
   survey-found : surveyed program ≡ found
-  survey-found = starts program ∙ survey-is program most-microcycles 0
+  survey-found = surveyed-is program
 
   -- ---- 17
   none-lower-leaves : (c : ℕ) → Reached program c → CanLeave program c → lowest ≤ c

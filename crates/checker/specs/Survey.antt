@@ -18,7 +18,7 @@ use Rattle.microwords.specs.ControlStore.{store-test}
 use Rattle.checker.specs.declared.Checked.{Checked}
 use Rattle.checker.specs.declared.Survey.{Survey}
 use Rattle.checker.specs.Walks.{next-of}
-use Rattle.checker.specs.Meaning.{most-microcycles, refusal, acceptance}
+use Rattle.checker.specs.Meaning.{refusal, acceptance}
 
 -- the next address where all that the sequencer reads outside the microword is clear, or all is set; but for `jop`, no other is possible
 abbrev pub extreme : ℕ → ℕ → Bool → ℕ
@@ -74,8 +74,12 @@ survey program zero done s = s
 survey program (suc n) done s =
     cond (eqb (s .standing) 0) s (survey program n (done + 1) (advance program (microcycles (done + 1)) s))
 
+-- microcycles for which walks are taken on
+abbrev pub rounds : ℕ
+rounds = 64
+
 abbrev pub surveyed : List ℕ → Survey
-surveyed program = survey program most-microcycles 0 start
+surveyed program = survey program rounds 0 start
 
 -- a possible next address of `w` at `a` reaches `limit`
 unfoldable pub passes : ℕ → ℕ → ℕ → Bool

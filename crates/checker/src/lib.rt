@@ -2,13 +2,14 @@
 // microcycles and none can leave, and how long the longest is.
 ghost use mathlib.Core.Bool.{cond};
 ghost use mathlib.Core.Path.{_≡_};
+ghost use lib.Count.{trailingZeros};
 ghost use Rattle.checker.specs.Meaning.{refusal, Meant};
 ghost use Rattle.checker.specs.Survey.{extreme, alone, next-set, joined, spread, advance, surveyed, passes, lowest-leaving};
 use answers::End;
 use answers::Microcycles;
 
-// Every walk must be back within so many microcycles.
-pub const MOST_MICROCYCLES: u64 = 64;
+// Walks are taken on for so many microcycles.
+const ROUNDS: u64 = 64;
 
 // The condition code `jop` (table 5.18), and the words it can lead to, 4 to 35.
 const JOP: u32 = 2;
@@ -118,7 +119,7 @@ fn surveyed(program: &[u64]) -> Survey
         longest: none,
     };
     let mut done: u64 = 0;
-    while done < MOST_MICROCYCLES {
+    while done < ROUNDS {
         if s.standing == 0 {
             return s;
         }
@@ -155,6 +156,13 @@ fn lowest_leaving(program: &[u64], seen: u64) -> usize
     at
 }
 
+// The lowest word of a set.
+fn lowest(set: u64) -> usize
+    ensures { λ r. ⌜ r ≡ trailingZeros 64 set ⌝ }
+{
+    u64::trailing_zeros(set) as usize
+}
+
 fn refusal(end: End) -> Checked
     ensures { λ r. ⌜ r ≡ refusal end ⌝ }
 {
@@ -179,7 +187,7 @@ pub fn check(program: &[u64]) -> Checked
         return refusal(End::WalkLeaves(leaving));
     }
     if survey.standing != 0 {
-        return refusal(End::WalkNotBack(u64::trailing_zeros(survey.standing) as usize));
+        return refusal(End::WalkNotBack(lowest(survey.standing)));
     }
     let end = End::Done;
     let longest = survey.longest;

@@ -3,7 +3,6 @@ use borrow.Author.Needs.{needs}
 use Prim.Native.Nat.{ℕ, _<_, _≤_}
 use native.Mathlib.Omega.{arith}
 use mathlib.Core.Path.{_≡_}
-use lib.Count.{trailing-le}
 use Rattle.checker.proofs.VerdictCases.{refused-first, can-leave, late, fine}
 use Rattle.checker.proofs.check.Statement.{statement}
 use Rattle.checker.proofs.check.Tie as tie
@@ -22,9 +21,6 @@ returns-2 c =
     can-leave (tested .before .before .args .program .now) (tested .tested .ensures) (passed .before .done .ensures) (passed .if1 .left)
     (found .before .surveyed .ensures) (found .lowest-leaving .ensures) (c .before .if2 .taken) (c .refusal2 .ensures)
 
-cast-t12 : tie.Need-cast-t12
-cast-t12 c = omega (arith, trailing-le 64 (c .before .before .before .before .before .surveyed .result .standing))
-
 returns-3 : tie.Need-returns-3
 returns-3 c =
     let inside = c .before .before .before .before in
@@ -32,7 +28,8 @@ returns-3 c =
     let passed = found .before .before in
     let tested = passed .before .before in
     late (tested .before .before .args .program .now) (tested .tested .ensures) (passed .before .done .ensures) (passed .if1 .left)
-    (found .before .surveyed .ensures) (found .lowest-leaving .ensures) (inside .if2 .left) (c .before .before .if3 .taken) (c .refusal3 .ensures)
+    (found .before .surveyed .ensures) (found .lowest-leaving .ensures) (inside .if2 .left) (c .before .before .if3 .taken) (c .before .lowest .ensures)
+    (c .refusal3 .ensures)
 
 returns-4 : tie.Need-returns-4
 returns-4 c =
@@ -55,7 +52,7 @@ check-spec =
     (λ c κs. search needs)
     (λ c κs. search needs)
     returns-2
-    cast-t12
+    (λ c κs. search needs)
     (λ c κs. search needs)
     returns-3
     returns-4)

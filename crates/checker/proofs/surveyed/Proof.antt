@@ -3,17 +3,16 @@ use borrow.Author.Needs.{needs}
 use Prim.Native.Nat.{_≤_, _-_}
 use native.Mathlib.Omega.{arith}
 use mathlib.Core.Path.{_≡_, refl, sym, _∙_}
-use Rattle.checker.specs.Meaning.{most-microcycles}
-use Rattle.checker.specs.Survey.{survey, surveyed}
+use Rattle.checker.specs.Survey.{survey, rounds, surveyed}
 use Rattle.checker.proofs.SurveyTurns.{walks-on, none-under-way, all-done}
 use Rattle.checker.proofs.surveyed.Statement.{statement}
 use Rattle.checker.proofs.surveyed.Tie as tie
 
 abbrev Inv-loop : tie.InvT-loop
-Inv-loop program s₀ done₀ s done = (done ≤ most-microcycles) × (surveyed program ≡ survey program (most-microcycles - done) done s)
+Inv-loop program s₀ done₀ s done = (done ≤ rounds) × (surveyed program ≡ survey program (rounds - done) done s)
 
 abbrev μ-loop : tie.MeasureT-loop
-μ-loop program s₀ done₀ s done = most-microcycles - done
+μ-loop program s₀ done₀ s done = rounds - done
 
 loop-holds : tie.Need-loop-holds Inv-loop μ-loop
 loop-holds c = (search needs, refl)
@@ -22,7 +21,7 @@ returns : tie.Need-returns Inv-loop μ-loop
 returns c =
     let turn = c .before .before .before in
     let program = turn .before .before .args .program .now in
-    sym (turn .loop .inv .1 ∙ none-under-way program (turn .loop .s) (turn .loop .done) (most-microcycles - turn .loop .done) (c .if1 .taken))
+    sym (turn .loop .inv .1 ∙ none-under-way program (turn .loop .s) (turn .loop .done) (rounds - turn .loop .done) (c .if1 .taken))
 
 loop-again : tie.Need-loop-again Inv-loop μ-loop
 loop-again c =
