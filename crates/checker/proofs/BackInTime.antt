@@ -1,17 +1,17 @@
 -- AN ACCEPTED MICROPROGRAM IS BACK IN TIME. Let a microprogram be accepted with n, and let a machine stand at fetch, in any state, with any
 -- memory and any requests. Its run is never refused 8: it does a microcycle for each request. And it makes a return within n microcycles,
 -- and again within n from each return: c returns within c n microcycles, for every c. Reset is not read, so nothing is asked of it.
-use Prim.Native.Nat.{ℕ, zero, suc, _+_, _*_, _^_, _<_, _≤_}
+use Prim.Native.Nat.{ℕ, zero, suc, _+_, _*_, _<_, _≤_}
 use native.Mathlib.Nat.{add-zero, zero-add, suc-mul}
 use native.Mathlib.Omega.{arith}
 use mathlib.Core.Path.{_≡_, refl, sym, ap, subst, _∙_}
 use mathlib.Core.Bool.{Bool, true, false, cond}
 use mathlib.Core.Logic.{_⊎_, inl, inr, ⊎-elim}
-use mathlib.Core.List.{List, [], _∷_}
+use mathlib.Core.List.{List, [], _∷_, _++_}
 use lib.Dec.{eqb}
-use lib.ListN.{length, getD}
+use lib.ListN.{length}
 use mir.Val.{boolByte as num}
-use borrow.Author.Tests.{lt-leb, eqb-true, eqb-false, eq-eqb}
+use borrow.Author.Tests.{lt-leb, eqb-true, eqb-false}
 use Rattle.words.specs.Fields.{opcode}
 use Rattle.words.proofs.FieldBounds.{field-lt}
 use Rattle.answers.specs.declared.End.{End}
@@ -26,9 +26,10 @@ use Rattle.microcycle.specs.declared.MicroMachine.{MicroMachine}
 use Rattle.microcycle.specs.Microcycle.{next-address, microcycle, micro-store, leaves}
 use Rattle.micro_level.specs.declared.machine.MicroState.{MicroState}
 use Rattle.micro_level.specs.Machine.{taken}
-use Rattle.micro_level.specs.Run.{RanOn, at-fetch, run-on, micro-test, answered, micro-refused, run}
+use Rattle.micro_level.specs.Run.{RanOn, at-fetch, run-on, MicroCalled, micro-test, answered, micro-refused, run}
 use Rattle.micro_level.proofs.RunInduction.{goes-on}
-use Rattle.checker.specs.Walks.{PossibleNext, UnderWay, Walk}
+use Rattle.micro_level.proofs.RunJoins.{joined}
+use Rattle.checker.specs.Walks.{PossibleNext, UnderWay}
 use Rattle.checker.specs.Walks.UnderWay.{begun, on}
 use Rattle.checker.specs.Walks.Walk.{returned}
 use Rattle.checker.specs.Meaning.{Accepted}
@@ -161,16 +162,34 @@ module _ (program : List ℕ) (some : fetch-address < length program) {n : ℕ} 
     pub back-in-time : n ≤ length requests → 1 ≤ run-on program mem s 0 0 requests .ran .steps .count
     back-in-time h = returns-keep-coming 1 (omega (arith, h))
 
-  -- ---- and for a call: how it ends is how its tests end, 0 to 7
-  pub call-never-8 : (mem : List ℕ) (s : MicroState) → s .mpc ≡ fetch-address → (requests : List ℕ)
-      → run program mem s requests .answer .end ≡ micro-test (length mem) program s requests
-  unfolding run
-  call-never-8 mem s at-first requests = by-test (is-done (micro-test (length mem) program s requests)) refl
-    where
-      test : End
-      test = micro-test (length mem) program s requests
+    -- from wherever the run is back at fetch
+    pub again-in-time : (more : List ℕ) → at-fetch (run-on program mem s 0 0 requests .ran .machine) ≡ true → n ≤ length more
+        → suc (run-on program mem s 0 0 requests .ran .steps .count) ≤ run-on program mem s 0 0 (requests ++ more) .ran .steps .count
+    again-in-time more back h =
+        let r = run-on program mem s 0 0 requests in
+        let there = subst (UnderWay program 0) (sym (eqb-true (r .ran .machine .mpc) fetch-address back)) begun in
+        let one = keep-coming more 1 (r .memory) (r .ran .machine) (r .ran .microcycles .count) (r .ran .steps .count) there (omega (arith, h)) in
+        subst (λ (all : RanOn). suc (r .ran .steps .count) ≤ all .ran .steps .count) (sym (joined program requests more mem s 0 0 (ap is-done never-refused)))
+        (omega (arith, one))
 
-      by-test : (b : Bool) → is-done test ≡ b
-          → cond b (answered s (run-on program mem (taken s) 0 0 requests)) (micro-refused test s mem) .answer .end ≡ test
-      by-test true t = never-refused mem (taken s) at-first requests ∙ sym (only-done-is-done test t)
-      by-test false t = refl
+  -- ---- and for a call: how it ends is how its tests end, 0 to 7; and where they pass, it is back in time
+  module _ (mem : List ℕ) (s : MicroState) (at-first : s .mpc ≡ fetch-address) (requests : List ℕ) where
+    test : End
+    test = micro-test (length mem) program s requests
+
+    by-test : Bool → MicroCalled
+    by-test b = cond b (answered s (run-on program mem (taken s) 0 0 requests)) (micro-refused test s mem)
+
+    pub call-never-8 : run program mem s requests .answer .end ≡ micro-test (length mem) program s requests
+    unfolding run test by-test
+    call-never-8 = ends (is-done test) refl
+      where
+        ends : (b : Bool) → is-done test ≡ b → by-test b .answer .end ≡ test
+        ends true t = never-refused mem (taken s) at-first requests ∙ sym (only-done-is-done test t)
+        ends false t = refl
+
+    pub call-back-in-time : is-done (micro-test (length mem) program s requests) ≡ true → n ≤ length requests
+        → 1 ≤ run program mem s requests .answer .steps .count
+    unfolding run test by-test
+    call-back-in-time passed h =
+        subst (λ (b : Bool). 1 ≤ by-test b .answer .steps .count) (sym passed) (back-in-time mem (taken s) at-first requests h)

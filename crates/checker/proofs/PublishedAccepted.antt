@@ -1,7 +1,5 @@
 -- THE PUBLISHED MICROPROGRAM IS ACCEPTED WITH 7: the checker's own verdict, computed once over the table.
 use mathlib.Core.Path.{_≡_, refl, subst}
-use lib.ListN.{length}
-use lib.Count.{trailingZeros}
 use Rattle.words.specs.Words.{field, bit}
 use Rattle.answers.specs.Places.{first-place}
 use Rattle.microwords.specs.Codes.{legal-microword}

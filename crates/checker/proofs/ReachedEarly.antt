@@ -1,6 +1,6 @@
 -- Every word that a walk reaches is reached after fewer than 64 microcycles. For as long as the words seen grow, each microcycle adds one,
 -- and there are 64; once a microcycle adds none, nothing new is ever reached.
-use Prim.Native.Nat.{ℕ, zero, suc, _^_, _<_, _≤_}
+use Prim.Native.Nat.{ℕ, zero, suc, _<_, _≤_}
 use native.Mathlib.Omega.{arith}
 use mathlib.Core.Path.{_≡_, sym, subst, _∙_}
 use mathlib.Core.Bool.{true}

@@ -1,13 +1,13 @@
 -- Sets of addresses as numbers: what is in a union, in a set of one, among the opcodes' words; the lowest member; and a union with
 -- something new has more members.
-use Prim.Native.Nat.{ℕ, zero, suc, _+_, _-_, _*_, _/_, _%_, _^_, _<_, _≤_, max}
+use Prim.Native.Nat.{ℕ, zero, suc, _+_, _-_, _/_, _%_, _^_, _<_, _≤_}
 use native.Mathlib.Nat.{mod-lt, pow-suc, not-suc-le-zero, le-of-suc-le-suc}
 use native.Mathlib.Omega.{arith}
-use mathlib.Core.Path.{_≡_, refl, sym, ap, ap₂, subst, _∙_}
+use mathlib.Core.Path.{_≡_, refl, sym, ap, ap₂, _∙_}
 use mathlib.Core.Bool.{Bool, true, false, false≢true, _||_}
-use mathlib.Core.Logic.{_⊎_, inl, inr, ⊎-elim}
+use mathlib.Core.Logic.{_⊎_, inl, inr}
 use lib.Dec.{eqb, eqb·zero-suc, eqb·suc-zero, eqb·suc-suc}
-use lib.Bits.{bitOr, or-step, or-shr, or-mod, or-lt}
+use lib.Bits.{bitOr, or-shr, or-mod, or-lt}
 use lib.Count.{ones, ones-step, under, trailingZeros}
 use lib.Pow.{pow-pos, pow-lt}
 use Rattle.checker.specs.Survey.{alone, opcode-words, union, in-lowest}

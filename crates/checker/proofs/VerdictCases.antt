@@ -42,7 +42,10 @@ module _ (program : List ℕ) {test : End} {ok : Bool} (e : test ≡ store-test 
 
     module _ (none-leaves : length program ≤ lowest) where
       pub late : {r : Checked} {word : ℕ} → (s .standing ≡ 0 → ⊥) → word ≡ trailingZeros 64 (s .standing) → r ≡ refusal (WalkNotBack word) → Meant program r
-      late h place-is q = meant (q ∙ ap (λ (k : ℕ). refusal (WalkNotBack k)) place-is ∙ sym (judgement ∙ rw (place, le-ltb lowest (length program) none-leaves, ne-eqb (s .standing) 0 h)))
+      late h stands q =
+          meant
+          (q ∙ ap (λ (k : ℕ). refusal (WalkNotBack k)) stands
+          ∙ sym (judgement ∙ rw (place, le-ltb lowest (length program) none-leaves, ne-eqb (s .standing) 0 h)))
 
       pub fine : s .standing ≡ 0 → Meant program (record { end = Done; longest = s .longest })
       fine h = meant (sym (judgement ∙ rw (place, le-ltb lowest (length program) none-leaves, eq-eqb (s .standing) 0 h)))

@@ -1,31 +1,28 @@
 -- THE VERDICT IS WHAT IS MEANT. For every control store, what the survey finds is the answer that the walks ask for.
-use Prim.Native.Nat.{ℕ, zero, suc, _+_, _<_, _≤_}
-use native.Mathlib.Nat.{add-zero, not-suc-le-zero}
+use Prim.Native.Nat.{ℕ, _<_, _≤_}
 use native.Mathlib.Omega.{arith}
-use mathlib.Core.Path.{_≡_, refl, sym, ap, subst, _∙_}
+use mathlib.Core.Path.{_≡_, refl, sym, subst, _∙_}
 use mathlib.Core.Bool.{Bool, true, false, false≢true, cond}
-use mathlib.Core.Logic.{_⊎_, inl, inr, ⊎-elim}
+use mathlib.Core.Logic.{_⊎_, ⊎-elim}
 use mathlib.Core.List.{List}
 use lib.Count.{trailingZeros}
 use lib.Dec.{eqb, ltb}
 use lib.ListN.{length, getD}
 use borrow.Author.Tests.{ltb-true, ltb-false, eqb-true, eqb-false}
 use Rattle.words.proofs.Cases.{lt-or-le}
-use Rattle.answers.specs.declared.End.{End}
 use Rattle.answers.specs.declared.End.the-variants.{Done, WalkLeaves, WalkNotBack}
 use Rattle.answers.specs.Ends.{is-done}
 use Rattle.answers.proofs.OneNumberAnEnd.{only-done-is-done}
 use Rattle.microwords.specs.ControlStore.{store-test}
 use Rattle.microwords.specs.Sequencer.{fetch-address}
 use Rattle.microwords.proofs.StoreTest.{some-word}
-use Rattle.checker.specs.declared.Checked.{Checked}
 use Rattle.checker.specs.declared.Survey.{Survey}
 use Rattle.checker.specs.Walks.{UnderWay, Walk}
 use Rattle.checker.specs.Walks.UnderWay.{begun}
 use Rattle.checker.specs.Walks.Walk.{returned}
 use Rattle.checker.specs.Meaning.{most-microcycles, Reached, CanLeave, NoneLeaves, AllBack, Accepted, Leaving, NotBack, refusal, acceptance, Meant}
 use Rattle.checker.specs.Meaning.Meant.{illegal, leaves, not-back, accepted}
-use Rattle.checker.specs.Survey.{passes, lowest-leaving, surveyed, judged, verdict}
+use Rattle.checker.specs.Survey.{lowest-leaving, surveyed, judged, verdict}
 use Rattle.checker.proofs.Sets.{has, has-none, lowest-is-in, lowest-is-least}
 use Rattle.checker.proofs.PossibleNexts.{passes-leads, leads-passes}
 use Rattle.checker.proofs.Standing.{after, standing-under-way, under-way-standing, seen-stood, stood-seen, longest-walk, none-longer, standing-lt, surveyed-is}

@@ -2,7 +2,6 @@
 use borrow.Author.Needs.{needs}
 use Prim.Native.Nat.{_%_, _^_}
 use native.Mathlib.Omega.{arith}
-use mathlib.Core.Path.{_≡_}
 use lib.Pow.{shl-exact}
 use Rattle.checker.specs.Survey.{alone}
 use Rattle.checker.proofs.alone.Statement.{statement}

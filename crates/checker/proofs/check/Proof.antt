@@ -1,8 +1,5 @@
 -- Each way out is a way of the verdict, and the verdict is what is meant.
 use borrow.Author.Needs.{needs}
-use Prim.Native.Nat.{ℕ, _<_, _≤_}
-use native.Mathlib.Omega.{arith}
-use mathlib.Core.Path.{_≡_}
 use Rattle.checker.proofs.VerdictCases.{refused-first, can-leave, late, fine}
 use Rattle.checker.proofs.check.Statement.{statement}
 use Rattle.checker.proofs.check.Tie as tie

@@ -1,7 +1,6 @@
 -- The loop's invariant: what is left of the survey from here is all of it.
 use borrow.Author.Needs.{needs}
 use Prim.Native.Nat.{_≤_, _-_}
-use native.Mathlib.Omega.{arith}
 use mathlib.Core.Path.{_≡_, refl, sym, _∙_}
 use Rattle.checker.specs.Survey.{survey, rounds, surveyed}
 use Rattle.checker.proofs.SurveyTurns.{walks-on, none-under-way, all-done}
