@@ -14,7 +14,7 @@ for cite in $cited; do
     file=crates/${cite%%#*} name=${cite#*#}
     if [ ! -f "$file" ]; then
         fail "$cite: there is no $file"
-    elif [ "$name" != "$cite" ] && ! grep -qE "(^|[[:space:]])(fn )?$name( :| \{|\()" "$file"; then
+    elif [ "$name" != "$cite" ] && ! grep -qE "(^|[[:space:]])((fn )?$name( :| \{|\()|(record|data) $name )" "$file"; then
         fail "$cite: $file declares no $name"
     else
         passed=$((passed + 1))
