@@ -64,12 +64,6 @@ module _ (b : ℕ) where
       spread-has ws (suc a) (standing / 2) (joined found standing a w)
       (i, le-of-suc-le-suc h, t, subst (λ (k : ℕ). Leads k (getD ws i 0) b) (add-suc a i ∙ sym (suc-add a i)) l)
 
--- nothing leads anywhere from nowhere
-pub from-nowhere : (ws : List ℕ) (a found : ℕ) → spread a ws 0 found ≡ found
-unfolding spread
-from-nowhere [] a found = refl
-from-nowhere (w ∷ ws) a found = from-nowhere ws (suc a) found
-
 -- ---- sets of 64 bits
 next-set-lt : (a w : ℕ) → next-set a w < 2 ^ 64
 unfolding next-set

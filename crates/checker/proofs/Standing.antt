@@ -21,7 +21,8 @@ use Rattle.checker.specs.Walks.Walk.{returned}
 use Rattle.checker.specs.Survey.{union, in-lowest, spread, microcycles, start, advance, survey, rounds, surveyed}
 use Rattle.checker.proofs.Sets.{has, has-none, has-union, union-lt}
 use Rattle.checker.proofs.PossibleNexts.{one-of, or-right}
-use Rattle.checker.proofs.NextOfSet.{spread-from, spread-has, from-nowhere, spread-lt}
+use Rattle.checker.proofs.NextOfSet.{spread-from, spread-has, spread-lt}
+use Rattle.checker.proofs.SurveyTurns.{from-nowhere}
 
 -- ---- the even part of a set is the set without fetch
 even-low : (n : ℕ) → in-lowest (n / 2 * 2) ≡ false

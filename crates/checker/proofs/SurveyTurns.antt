@@ -4,7 +4,7 @@ use native.Mathlib.Numerals.{add-one}
 use native.Mathlib.Omega.{arith}
 use mathlib.Core.Path.{_≡_, refl, sym, ap, _∙_}
 use mathlib.Core.Bool.{Bool, true, false, cond, _&&_}
-use mathlib.Core.List.{List}
+use mathlib.Core.List.{List, [], _∷_}
 use lib.ListN.{length, getD, drop}
 use lib.Seq.{drop-cons, drop-length}
 use lib.Bits.{bitOr}
@@ -48,12 +48,20 @@ module _ (found standing a w : ℕ) where
   pub joins-nothing : (standing % 2 ≡ 1 → ⊥) → found ≡ joined found standing a w
   joins-nothing t = rw (ne-eqb (standing % 2) 1 t)
 
--- ---- the next addresses of a set
+-- ---- the next addresses of a set; from nowhere nothing leads anywhere
+pub from-nowhere : (ws : List ℕ) (a found : ℕ) → spread a ws 0 found ≡ found
+unfolding spread
+from-nowhere [] a found = refl
+from-nowhere (w ∷ ws) a found = from-nowhere ws (suc a) found
+
 module _ (program : List ℕ) (rest found at : ℕ) where
   pub spread-more : {next : ℕ} → at < length program → next ≡ joined found rest (at % 2 ^ 6) (getD program at 0)
       → spread at (drop at program) rest found ≡ spread (at + 1) (drop (at + 1) program) (rest / 2) next
   unfolding spread
   spread-more h e = rw (drop-cons program at 0 h, e, next-set-low at (getD program at 0), add-one at) refl
+
+  pub spread-nothing : rest ≡ 0 → spread at (drop at program) rest found ≡ found
+  spread-nothing h = ap (λ (set : ℕ). spread at (drop at program) set found) h ∙ from-nowhere (drop at program) at found
 
   pub spread-over : at ≡ length program → spread at (drop at program) rest found ≡ found
   unfolding spread

@@ -76,6 +76,9 @@ fn spread(program: &[u64], standing: u64) -> u64
     let mut found: u64 = 0;
     let mut at: usize = 0;
     while at < program.len() {
+        if rest == 0 {
+            return found;
+        }
         found = joined(found, rest, (at % 64) as u32, program[at]);
         rest = rest / 2;
         at += 1;

@@ -5,7 +5,7 @@ use native.Mathlib.Omega.{arith}
 use mathlib.Core.Path.{_≡_, refl, sym, _∙_}
 use lib.ListN.{length, drop}
 use Rattle.checker.specs.Survey.{spread}
-use Rattle.checker.proofs.SurveyTurns.{spread-more, spread-over}
+use Rattle.checker.proofs.SurveyTurns.{spread-more, spread-nothing, spread-over}
 use Rattle.checker.proofs.spread.Statement.{statement}
 use Rattle.checker.proofs.spread.Tie as tie
 
@@ -19,17 +19,23 @@ abbrev μ-loop : tie.MeasureT-loop
 loop-holds : tie.Need-loop-holds Inv-loop μ-loop
 loop-holds c = (search needs, refl)
 
+returns : tie.Need-returns Inv-loop μ-loop
+returns c =
+    let turn = c .before .before in
+    let args = turn .before .before .args in
+    sym (turn .loop .inv .1 ∙ spread-nothing (args .program .now) (turn .loop .rest) (turn .loop .found) (turn .loop .at) (c .if1 .taken))
+
 loop-again : tie.Need-loop-again Inv-loop μ-loop
 loop-again c =
-    let turn = c .before .before .before in
+    let turn = c .before .before .before .before in
     let args = turn .before .before .args in (
       search needs,
       turn .loop .inv .1
-          ∙ spread-more (args .program .now) (turn .loop .rest) (turn .loop .found) (turn .loop .at) (c .before .before .loop-test .taken) (c .joined .ensures),
+          ∙ spread-more (args .program .now) (turn .loop .rest) (turn .loop .found) (turn .loop .at) (c .before .before .before .loop-test .taken) (c .joined .ensures),
     )
 
-returns : tie.Need-returns Inv-loop μ-loop
-returns c =
+returns-2 : tie.Need-returns-2 Inv-loop μ-loop
+returns-2 c =
     let turn = c .before in
     let args = turn .before .before .args in
     sym (turn .loop .inv .1 ∙ spread-over (args .program .now) (turn .loop .rest) (turn .loop .found) (turn .loop .at) (omega arith))
@@ -41,6 +47,7 @@ spread-spec =
     Inv-loop
     μ-loop
     loop-holds
+    returns
     (λ c. search needs)
     (λ c. search needs)
     (λ c. search needs)
@@ -48,4 +55,4 @@ spread-spec =
     (λ c. search needs)
     (λ c. search needs)
     loop-again
-    returns)
+    returns-2)
