@@ -9,7 +9,7 @@
 #include "plain_check.h"
 
 enum { STEP, JMP, JOP, JINT, JSM };
-enum { REPETITIONS = 21 };
+enum { REPETITIONS = 21, CHECKS_A_SECOND = 20000 }; /* the second: what avm_check has to do on one core */
 
 static const double shortest_repetition = 0.01; /* seconds: long against what one reading of the clock costs */
 
@@ -130,7 +130,7 @@ static double median(double *numbers)
 /* Proved and plain in turn, so that what disturbs the machine for a while disturbs both. */
 static void measure(const struct row *row, const uint64_t *program)
 {
-    double proved[REPETITIONS], plain[REPETITIONS], ratio[REPETITIONS], middle;
+    double proved[REPETITIONS], plain[REPETITIONS], ratio[REPETITIONS], middle, rate;
     unsigned long checks = enough_checks(row, program);
     int k;
 
@@ -140,8 +140,11 @@ static void measure(const struct row *row, const uint64_t *program)
         ratio[k] = proved[k] / plain[k];
     }
     middle = median(ratio);
-    printf("%-34s %12.0f %12.0f %7.2f  (%.2f to %.2f)\n", row->name, (double)checks / median(proved), (double)checks / median(plain),
-           middle, ratio[0], ratio[REPETITIONS - 1]);
+    rate = (double)checks / median(proved);
+    printf("%-34s %12.0f %12.0f %7.2f  (%.2f to %.2f)\n", row->name, rate, (double)checks / median(plain), middle, ratio[0],
+           ratio[REPETITIONS - 1]);
+    if (rate < CHECKS_A_SECOND)
+        fail(row, "the proved checker is too slow");
 }
 
 static void compare(const struct row *row, const uint64_t *program)

@@ -149,8 +149,8 @@ avm_answer avm_steps(uint32_t *memory, size_t m, uint32_t *registers, size_t cou
 
    program, words    the microprogram, one microword each; only read
 
-   The possible next addresses of a word follow from its COND and ADDR. Which of them a run takes depends on the opcode, the latched
-   request, ie and sm. Here each of these may have any value at any word, whatever it was a word earlier:
+   The possible next addresses of a word follow from its own address, its COND and its ADDR. Which of them a run takes depends on the
+   opcode, the latched request, ie and sm. Here each of these may have any value at any word, whatever it was a word earlier:
 
        COND 0  step   the next word, that is the word's own address + 1; after 63 comes 0
             1  jmp    ADDR
@@ -167,8 +167,9 @@ avm_answer avm_steps(uint32_t *memory, size_t m, uint32_t *registers, size_t cou
    Numbers 4 and 5: refused as by avm_run.
    Number 17: a walk can leave the microprogram. at is the lowest word that a walk reaches and that has a possible next address which is not
    below words.
-   Number 18: no walk can leave, but one is not back after 64 microcycles: it goes in a circle. at is the lowest word on which such a walk
-   stands after exactly 64 microcycles, which need not be the lowest word of the circle.
+   Number 18: no walk can leave, but one is not back after 64 microcycles. There are 63 words besides fetch, so it was on one of them twice:
+   it goes in a circle. at is the lowest word on which such a walk stands after exactly 64 microcycles, which need not be the lowest word of
+   the circle.
 
    A walk may be one that no run takes: sm may be set by one word and taken as clear by a jsm right after it. So all runs may be back sooner
    than the longest walk, and a program may be refused for a walk that no run would take.

@@ -87,6 +87,17 @@ void lead(struct inputs *in, size_t place, unsigned cond, unsigned addr)
     in->program[place] = pack(word);
 }
 
+void start_store(struct inputs *inputs, size_t words)
+{
+    start(inputs);
+    inputs->words = words;
+}
+
+void jump(struct inputs *inputs, size_t from, size_t to)
+{
+    lead(inputs, from, COND_JMP, (unsigned)to);
+}
+
 void start(struct inputs *in)
 {
     size_t k;

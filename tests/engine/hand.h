@@ -18,6 +18,10 @@ struct microword idle(void);
 /* An idle word in that place of the program, but with that condition and address. */
 void lead(struct inputs *inputs, size_t place, unsigned cond, unsigned addr);
 
+/* Inputs as `start` makes them, with a store of that many words, each of which leads to fetch alone; and a jump in it. */
+void start_store(struct inputs *inputs, size_t words);
+void jump(struct inputs *inputs, size_t from, size_t to);
+
 /* Instruction words by their format (figure 5.1, p. 66). Bits that a format does not use are set: they mean nothing. */
 uint32_t format_1(unsigned opcode, unsigned dest, unsigned srca, unsigned srcb);
 uint32_t format_2(unsigned opcode, unsigned dest, unsigned srca, uint32_t imm);

@@ -43,8 +43,7 @@ static void fill_with_jop(void)
 {
     size_t place;
 
-    start(&store);
-    store.words = 64;
+    start_store(&store, 64);
     for (place = 0; place < store.words; place++)
         lead(&store, place, COND_JOP, 0);
 }

@@ -5,18 +5,6 @@ static struct inputs store;
 
 static const uint64_t bad_word = (uint64_t)1 << 40;
 
-/* A store of that many words, each of which leads to fetch alone. */
-static void start_store(size_t words)
-{
-    start(&store);
-    store.words = words;
-}
-
-static void jump(size_t from, size_t to)
-{
-    lead(&store, from, COND_JMP, (unsigned)to);
-}
-
 /* 0 words come with NULL on one side and with a pointer that can't be read on the other. */
 static void lengths(void)
 {
@@ -25,12 +13,12 @@ static void lengths(void)
 
     for (k = 0; k < COUNT(too_short_or_long); k++) {
         stand_at_row(k);
-        start_store(too_short_or_long[k]);
+        start_store(&store, too_short_or_long[k]);
         check_walks(&store, refused(4, 0));
     }
-    start_store(1);
+    start_store(&store, 1);
     check_walks(&store, accepted(1));
-    start_store(64);
+    start_store(&store, 64);
     check_walks(&store, accepted(1));
 }
 
@@ -41,7 +29,7 @@ static void bad_words(void)
 
     for (place = 0; place < 64; place++) {
         stand_at_row(place);
-        start_store(64);
+        start_store(&store, 64);
         store.program[place] = bad_word;
         check_walks(&store, refused(5, place));
         store.program[63] = store.program[(place + 63) / 2] = UINT64_MAX;
@@ -61,8 +49,8 @@ static void addresses_outside(void)
     for (words = 6; words < 64; words++)
         for (k = 0; k < COUNT(conditions); k++) {
             stand_at_row(words);
-            start_store(words);
-            jump(0, 3);
+            start_store(&store, words);
+            jump(&store, 0, 3);
             lead(&store, 3, conditions[k], words - 1);
             check_walks(&store, accepted(3));
             lead(&store, 3, conditions[k], words);
@@ -81,8 +69,8 @@ static void next_word_outside(void)
     for (words = 1; words <= 64; words++)
         for (k = 0; k < COUNT(conditions); k++) {
             stand_at_row(words);
-            start_store(words);
-            jump(0, words - 1);
+            start_store(&store, words);
+            jump(&store, 0, words - 1);
             lead(&store, words - 1, conditions[k], 0);
             check_walks(&store, words < 64 ? refused(17, words - 1) : accepted(2));
         }
@@ -95,7 +83,7 @@ static void jop_outside(void)
 
     for (words = 1; words <= 64; words++) {
         stand_at_row(words);
-        start_store(words);
+        start_store(&store, words);
         lead(&store, 0, COND_JOP, 0);
         check_walks(&store, words < 36 ? refused(17, 0) : accepted(2));
     }
@@ -104,36 +92,36 @@ static void jop_outside(void)
 /* 3 leaves by its jump, and 7 leaves. A store's first word may be the lowest. */
 static void lowest_of_two(void)
 {
-    start_store(10);
-    jump(0, 3);
+    start_store(&store, 10);
+    jump(&store, 0, 3);
     lead(&store, 3, COND_JINT, 20);
-    jump(4, 7);
-    jump(7, 63);
+    jump(&store, 4, 7);
+    jump(&store, 7, 63);
     check_walks(&store, refused(17, 3));
     lead(&store, 0, COND_JSM, 10);
-    jump(1, 3);
+    jump(&store, 1, 3);
     check_walks(&store, refused(17, 0));
 }
 
 /* The walk is 0, 8, 9, 5: it comes to 8, which can leave, before it comes to 5. No walk comes to 2 until 9 leads there. */
 static void lowest_is_not_the_first(void)
 {
-    start_store(10);
-    jump(0, 8);
+    start_store(&store, 10);
+    jump(&store, 0, 8);
     lead(&store, 8, COND_JSM, 40);
-    jump(9, 5);
-    jump(5, 10);
-    jump(2, 63);
+    jump(&store, 9, 5);
+    jump(&store, 5, 10);
+    jump(&store, 2, 63);
     check_walks(&store, refused(17, 5));
-    jump(9, 2);
+    jump(&store, 9, 2);
     check_walks(&store, refused(17, 2));
 }
 
 static void leaving_on_no_walk(void)
 {
-    start_store(10);
-    jump(0, 4);
-    jump(1, 63);
+    start_store(&store, 10);
+    jump(&store, 0, 4);
+    jump(&store, 1, 63);
     lead(&store, 5, COND_JOP, 0);
     lead(&store, 9, COND_STEP, 0);
     check_walks(&store, accepted(2));
@@ -146,12 +134,12 @@ static void leaving_late(void)
 {
     size_t place;
 
-    start_store(63);
-    jump(0, 62);
+    start_store(&store, 63);
+    jump(&store, 0, 62);
     for (place = 62; place > 1; place--)
-        jump(place, place - 1);
+        jump(&store, place, place - 1);
     check_walks(&store, accepted(63));
-    jump(1, 63);
+    jump(&store, 1, 63);
     check_walks(&store, refused(17, 1));
 }
 
@@ -163,12 +151,12 @@ static void leaving_after_either_way(void)
 
     for (k = 0; k < COUNT(conditions); k++) {
         stand_at_row(k);
-        start_store(6);
+        start_store(&store, 6);
         lead(&store, 0, conditions[k], 5);
-        jump(1, 6);
+        jump(&store, 1, 6);
         check_walks(&store, refused(17, 1));
-        jump(1, 0);
-        jump(5, 6);
+        jump(&store, 1, 0);
+        jump(&store, 5, 6);
         check_walks(&store, refused(17, 5));
     }
 }
@@ -180,9 +168,9 @@ static void leaving_after_jop(void)
 
     for (k = 3; k <= 36; k++) {
         stand_at_row(k);
-        start_store(40);
+        start_store(&store, 40);
         lead(&store, 0, COND_JOP, 0);
-        jump(k, 40);
+        jump(&store, k, 40);
         check_walks(&store, k == 3 || k == 36 ? accepted(2) : refused(17, k));
     }
 }
@@ -193,8 +181,8 @@ static void put_fault(unsigned number)
     switch (number) {
     case 4: store.words = 65; break;
     case 5: store.program[20] = store.program[40] = bad_word; break;
-    case 17: jump(2, 60); break;
-    case 18: jump(3, 3); break;
+    case 17: jump(&store, 2, 60); break;
+    case 18: jump(&store, 3, 3); break;
     }
 }
 
@@ -207,9 +195,9 @@ static void several_faults(void)
         avm_answer want = accepted(3);
 
         stand_at_row(set);
-        start_store(50);
+        start_store(&store, 50);
         lead(&store, 0, COND_JINT, 2);
-        jump(1, 3);
+        jump(&store, 1, 3);
         for (k = 4; k-- > 0;)
             if (set >> k & 1) {
                 put_fault(numbers[k]);
@@ -222,20 +210,20 @@ static void several_faults(void)
 /* The circle is lower than the word that leaves; the word that leaves is on the circle; and the circle is entered before it is reached. */
 static void leaving_beside_a_circle(void)
 {
-    start_store(20);
+    start_store(&store, 20);
     lead(&store, 0, COND_JINT, 9);
-    jump(1, 1);
-    jump(9, 20);
+    jump(&store, 1, 1);
+    jump(&store, 9, 20);
     check_walks(&store, refused(17, 9));
-    start_store(20);
-    jump(0, 4);
+    start_store(&store, 20);
+    jump(&store, 0, 4);
     lead(&store, 4, COND_JSM, 50);
-    jump(5, 4);
+    jump(&store, 5, 4);
     check_walks(&store, refused(17, 4));
-    start_store(20);
-    jump(0, 2);
+    start_store(&store, 20);
+    jump(&store, 0, 2);
     lead(&store, 2, COND_JINT, 2);
-    jump(3, 19);
+    jump(&store, 3, 19);
     lead(&store, 19, COND_STEP, 0);
     check_walks(&store, refused(17, 19));
 }
@@ -243,13 +231,13 @@ static void leaving_beside_a_circle(void)
 /* A bad word counts even where no walk comes to it and another word, which is lower, leaves or circles. */
 static void bad_words_first(void)
 {
-    start_store(30);
-    jump(0, 63);
+    start_store(&store, 30);
+    jump(&store, 0, 63);
     store.program[29] = bad_word;
     check_walks(&store, refused(5, 29));
-    start_store(30);
-    jump(0, 1);
-    jump(1, 1);
+    start_store(&store, 30);
+    jump(&store, 0, 1);
+    jump(&store, 1, 1);
     store.program[29] = bad_word;
     check_walks(&store, refused(5, 29));
 }

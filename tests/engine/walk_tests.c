@@ -7,23 +7,11 @@
 
 static struct inputs store;
 
-/* A store of that many words, each of which leads to fetch alone. */
-static void start_store(size_t words)
-{
-    start(&store);
-    store.words = words;
-}
-
-static void jump(size_t from, size_t to)
-{
-    lead(&store, from, COND_JMP, (unsigned)to);
-}
-
 /* Jumps from each word to the next one, up to the last. */
 static void jump_through(size_t first, size_t last)
 {
     for (; first < last; first++)
-        jump(first, first + 1);
+        jump(&store, first, first + 1);
 }
 
 static void fetch_to_itself(void)
@@ -32,7 +20,7 @@ static void fetch_to_itself(void)
 
     for (words = 1; words <= 64; words++) {
         stand_at_row(words);
-        start_store(words);
+        start_store(&store, words);
         check_walks(&store, accepted(1));
     }
 }
@@ -44,10 +32,10 @@ static void every_length(void)
 
     for (length = 1; length <= 64; length++) {
         stand_at_row(length);
-        start_store(length);
+        start_store(&store, length);
         jump_through(0, length - 1);
         check_walks(&store, accepted(length));
-        start_store(64);
+        start_store(&store, 64);
         for (place = 0; place < length - 1; place++)
             lead(&store, place, COND_STEP, 63);
         check_walks(&store, accepted(length));
@@ -62,9 +50,9 @@ static void all_words_in_any_order(void)
 
     for (k = 0; k < COUNT(strides); k++) {
         stand_at_row(k);
-        start_store(64);
+        start_store(&store, 64);
         for (place = 0; place < 64; place++)
-            jump(place, (place + strides[k]) % 64);
+            jump(&store, place, (place + strides[k]) % 64);
         check_walks(&store, accepted(64));
     }
 }
@@ -72,15 +60,15 @@ static void all_words_in_any_order(void)
 /* 63 is left by a step, and by not taking a jump: 0, 63 and back, where the jump would go on to 5. */
 static void after_63_comes_0(void)
 {
-    start_store(64);
-    jump(0, 63);
+    start_store(&store, 64);
+    jump(&store, 0, 63);
     lead(&store, 63, COND_STEP, 5);
     check_walks(&store, accepted(2));
     lead(&store, 63, COND_JINT, 5);
     check_walks(&store, accepted(3));
     lead(&store, 63, COND_JSM, 5);
     check_walks(&store, accepted(3));
-    jump(5, 63);
+    jump(&store, 5, 63);
     check_walks(&store, refused(18, 5));
 }
 
@@ -92,7 +80,7 @@ static void the_longer_way(void)
 
     for (k = 0; k < COUNT(conditions); k++) {
         stand_at_row(k);
-        start_store(13);
+        start_store(&store, 13);
         lead(&store, 0, conditions[k], 10);
         jump_through(10, 12);
         check_walks(&store, accepted(4));
@@ -106,21 +94,21 @@ static void the_longer_way(void)
 /* 0, 5, 6 and 0, 1, 2, 3, 5, 6 meet in 5, which the shorter one comes to first. */
 static void ways_that_meet(void)
 {
-    start_store(7);
+    start_store(&store, 7);
     lead(&store, 0, COND_JINT, 5);
     jump_through(1, 3);
-    jump(3, 5);
-    jump(5, 6);
+    jump(&store, 3, 5);
+    jump(&store, 5, 6);
     check_walks(&store, accepted(6));
 }
 
 /* 3 and 36 are next to what jop leads to and on no walk, so whatever they do is not seen. */
 static void jop_leads_to_no_other(void)
 {
-    start_store(40);
+    start_store(&store, 40);
     lead(&store, 0, COND_JOP, 3);
-    jump(3, 3);
-    jump(36, 63);
+    jump(&store, 3, 3);
+    jump(&store, 36, 63);
     check_walks(&store, accepted(2));
 }
 
@@ -132,12 +120,12 @@ static void jop_leads_to_4_to_35(void)
 
     for (k = 4; k <= 35; k++) {
         stand_at_row(k);
-        start_store(41);
+        start_store(&store, 41);
         lead(&store, 0, COND_JOP, 0);
-        jump(k, 36);
+        jump(&store, k, 36);
         jump_through(36, 40);
         check_walks(&store, accepted(7));
-        jump(40, k);
+        jump(&store, 40, k);
         check_walks(&store, refused(18, 38));
     }
 }
@@ -167,9 +155,9 @@ static void circles(void)
 
     for (k = 0; k < COUNT(rows); k++) {
         stand_at_row(k);
-        start_store(rows[k].last + 1);
+        start_store(&store, rows[k].last + 1);
         jump_through(0, rows[k].last);
-        jump(rows[k].last, rows[k].first);
+        jump(&store, rows[k].last, rows[k].first);
         check_walks(&store, refused(18, rows[k].at));
         store.words = 64;
         check_walks(&store, refused(18, rows[k].at));
@@ -180,17 +168,17 @@ static void circles(void)
    9 it is one place behind, on 7, and with two on 8. */
 static void circles_downward(void)
 {
-    start_store(12);
-    jump(9, 8);
-    jump(8, 7);
-    jump(7, 9);
-    jump(0, 9);
+    start_store(&store, 12);
+    jump(&store, 9, 8);
+    jump(&store, 8, 7);
+    jump(&store, 7, 9);
+    jump(&store, 0, 9);
     check_walks(&store, refused(18, 9));
-    jump(0, 11);
-    jump(11, 9);
+    jump(&store, 0, 11);
+    jump(&store, 11, 9);
     check_walks(&store, refused(18, 7));
-    jump(11, 2);
-    jump(2, 9);
+    jump(&store, 11, 2);
+    jump(&store, 2, 9);
     check_walks(&store, refused(18, 8));
 }
 
@@ -198,20 +186,20 @@ static void circles_downward(void)
    that one stands on 5 + 63 mod 3 = 5; with 30 leading to itself the first stands on 30 still. */
 static void two_circles(void)
 {
-    start_store(32);
+    start_store(&store, 32);
     lead(&store, 0, COND_JINT, 5);
-    jump(1, 30);
-    jump(30, 31);
-    jump(31, 30);
-    jump(5, 6);
-    jump(6, 5);
+    jump(&store, 1, 30);
+    jump(&store, 30, 31);
+    jump(&store, 31, 30);
+    jump(&store, 5, 6);
+    jump(&store, 6, 5);
     check_walks(&store, refused(18, 6));
-    jump(6, 7);
-    jump(7, 5);
-    jump(30, 30);
+    jump(&store, 6, 7);
+    jump(&store, 7, 5);
+    jump(&store, 30, 30);
     check_walks(&store, refused(18, 5));
     /* the second comes back, so the first alone is left */
-    jump(7, 0);
+    jump(&store, 7, 0);
     check_walks(&store, refused(18, 30));
 }
 
@@ -223,12 +211,12 @@ static void circles_with_a_way_back(void)
 
     for (k = 0; k < COUNT(conditions); k++) {
         stand_at_row(k);
-        start_store(3);
-        jump(0, 1);
+        start_store(&store, 3);
+        jump(&store, 0, 1);
         lead(&store, 1, conditions[k], 0);
-        jump(2, 1);
+        jump(&store, 2, 1);
         check_walks(&store, refused(18, 2));
-        jump(2, 0);
+        jump(&store, 2, 0);
         check_walks(&store, accepted(3));
     }
 }
@@ -241,14 +229,14 @@ static void circles_by_either_way(void)
 
     for (k = 0; k < COUNT(conditions); k++) {
         stand_at_row(k);
-        start_store(5);
-        jump(0, 3);
+        start_store(&store, 5);
+        jump(&store, 0, 3);
         lead(&store, 3, conditions[k], 0);
-        jump(4, 3);
+        jump(&store, 4, 3);
         check_walks(&store, refused(18, 4));
-        start_store(6);
-        jump(0, 3);
-        jump(3, 4);
+        start_store(&store, 6);
+        jump(&store, 0, 3);
+        jump(&store, 3, 4);
         lead(&store, 4, conditions[k], 3);
         check_walks(&store, refused(18, 4));
     }
@@ -259,25 +247,25 @@ static void circles_through_jop(void)
 {
     size_t place;
 
-    start_store(36);
+    start_store(&store, 36);
     for (place = 4; place <= 35; place++)
-        jump(place, 2);
+        jump(&store, place, 2);
     lead(&store, 0, COND_JOP, 0);
     lead(&store, 2, COND_JOP, 0);
     check_walks(&store, refused(18, 2));
-    jump(0, 1);
+    jump(&store, 0, 1);
     lead(&store, 1, COND_JOP, 0);
     check_walks(&store, refused(18, 4));
 }
 
 static void circles_on_no_walk(void)
 {
-    start_store(64);
-    jump(1, 1);
+    start_store(&store, 64);
+    jump(&store, 1, 1);
     jump_through(2, 63);
-    jump(63, 2);
+    jump(&store, 63, 2);
     check_walks(&store, accepted(1));
-    jump(0, 1);
+    jump(&store, 0, 1);
     check_walks(&store, refused(18, 1));
 }
 
@@ -288,11 +276,11 @@ static void sm_chosen_anew(void)
 
     setting.s_sm = true;
     setting.cond = COND_STEP;
-    start_store(3);
+    start_store(&store, 3);
     store.program[0] = pack(setting);
     lead(&store, 1, COND_JSM, 0);
     check_walks(&store, accepted(3));
-    jump(2, 2);
+    jump(&store, 2, 2);
     check_walks(&store, refused(18, 2));
 }
 
@@ -300,13 +288,13 @@ static void sm_chosen_anew(void)
    64 microcycles. A walk that took 5 at its last jop stands on 1. */
 static void opcode_chosen_anew(void)
 {
-    start_store(37);
+    start_store(&store, 37);
     lead(&store, 0, COND_JOP, 0);
     lead(&store, 36, COND_JOP, 0);
-    jump(10, 36);
-    jump(5, 1);
+    jump(&store, 10, 36);
+    jump(&store, 5, 1);
     check_walks(&store, refused(18, 1));
-    jump(10, 0);
+    jump(&store, 10, 0);
     check_walks(&store, accepted(3));
 }
 
@@ -319,7 +307,7 @@ static void other_fields(void)
     full.ld_c = full.ld_v = full.ld_n = full.ld_z = full.csrc = full.iack = full.ftch = full.rd = full.wr = true;
     full.addr = 63;
     full.cond = COND_STEP;
-    start_store(37);
+    start_store(&store, 37);
     store.program[0] = pack(full);
     full.cond = COND_JOP;
     store.program[1] = pack(full);
@@ -347,7 +335,7 @@ static void the_published_program_in_a_circle(void)
     store.program[52] += 49;
     check_walks(&store, refused(18, 50));
     /* without INT's way there */
-    jump(42, 0);
+    jump(&store, 42, 0);
     check_walks(&store, refused(18, 52));
 }
 
@@ -368,7 +356,7 @@ static void all_that_the_sequencer_gives(void)
     bool next[ADDRESSES];
     unsigned cond, addr, mpc;
 
-    start_store(64);
+    start_store(&store, 64);
     for (cond = 0; cond < COND_CODES; cond++)
         for (addr = 0; addr < 64; addr++) {
             for (mpc = 0; mpc < 64; mpc++)

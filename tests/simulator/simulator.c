@@ -225,9 +225,9 @@ avm_answer sim_check(const uint64_t *program, size_t words)
         if (walks.reached[word] && can_leave(&walks, word))
             return numbered(AVM_WALK_LEAVES, word);
     for (word = 0; word < words; word++)
-        if (walks.stands[64][word])
+        if (walks.stands[LONGEST_ALLOWED][word])
             return numbered(AVM_WALK_NOT_BACK, word);
-    for (microcycles = 1; microcycles <= 64; microcycles++)
+    for (microcycles = 1; microcycles <= LONGEST_ALLOWED; microcycles++)
         if (walks.ends[microcycles])
             answer.microcycles.count = microcycles;
     return answer;

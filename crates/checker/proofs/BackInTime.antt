@@ -16,7 +16,7 @@ use Rattle.words.specs.Fields.{opcode}
 use Rattle.words.proofs.FieldBounds.{field-lt}
 use Rattle.answers.specs.declared.End.{End}
 use Rattle.answers.specs.declared.End.the-variants.{Done}
-use Rattle.answers.specs.Ends.{is-done}
+use Rattle.answers.specs.Ends.{shown, is-done}
 use Rattle.answers.proofs.OneNumberAnEnd.{only-done-is-done}
 use Rattle.microwords.specs.Sequencer.{fetch-address}
 use Rattle.blocks.specs.Memory.{applied}
@@ -29,7 +29,8 @@ use Rattle.micro_level.specs.Machine.{taken}
 use Rattle.micro_level.specs.Run.{RanOn, at-fetch, run-on, MicroCalled, micro-test, answered, micro-refused, run}
 use Rattle.micro_level.proofs.RunInduction.{goes-on}
 use Rattle.micro_level.proofs.RunJoins.{joined}
-use Rattle.checker.specs.Walks.{PossibleNext, UnderWay}
+use Rattle.micro_level.proofs.TestNumbers.{at-most-7}
+use Rattle.checker.specs.Walks.{PossibleNext, UnderWay, Walk}
 use Rattle.checker.specs.Walks.UnderWay.{begun, on}
 use Rattle.checker.specs.Walks.Walk.{returned}
 use Rattle.checker.specs.Meaning.{Accepted}
@@ -50,16 +51,20 @@ possible program s request h = (
   },
 )
 
-module _ (program : List ℕ) (some : fetch-address < length program) {n : ℕ} (accepted : Accepted program n) where
+-- where there is a walk, there is a word at fetch
+some-word : {program : List ℕ} {n : ℕ} → Walk program n → fetch-address < length program
+some-word (returned u next) = let inside = next .0 in omega (arith, inside)
+
+module _ (program : List ℕ) {n : ℕ} (accepted : Accepted program n) where
+  some : fetch-address < length program
+  some = some-word (accepted .walk)
+
   -- ---- one microcycle of a machine that stands where a walk under way does
   module _ (mem : List ℕ) (s : MicroMachine) (request : ℕ) {k : ℕ} (u : UnderWay program k (s .mpc)) where
-    next : MicroMachine
-    next = microcycle program mem s request
-
     here : PossibleNext program (s .mpc) (next-address program s request)
     here = possible program s request (inside program (accepted .none-leaves) some u)
 
-    pub not-left : leaves program s request ≡ false
+    not-left : leaves program s request ≡ false
     unfolding leaves
     not-left = lt-leb (length program) (next-address program s request) (stays-inside program (accepted .none-leaves) some u here)
 
@@ -180,13 +185,16 @@ module _ (program : List ℕ) (some : fetch-address < length program) {n : ℕ} 
     by-test : Bool → MicroCalled
     by-test b = cond b (answered s (run-on program mem (taken s) 0 0 requests)) (micro-refused test s mem)
 
-    pub call-never-8 : run program mem s requests .answer .end ≡ micro-test (length mem) program s requests
+    pub call-ends-as-tested : run program mem s requests .answer .end ≡ micro-test (length mem) program s requests
     unfolding run test by-test
-    call-never-8 = ends (is-done test) refl
+    call-ends-as-tested = ends (is-done test) refl
       where
         ends : (b : Bool) → is-done test ≡ b → by-test b .answer .end ≡ test
         ends true t = never-refused mem (taken s) at-first requests ∙ sym (only-done-is-done test t)
         ends false t = refl
+
+    pub call-never-8 : shown (run program mem s requests .answer .end) .number ≤ 7
+    call-never-8 = subst (λ (end : End). shown end .number ≤ 7) (sym call-ends-as-tested) (at-most-7 (length mem) program s requests)
 
     pub call-back-in-time : is-done (micro-test (length mem) program s requests) ≡ true → n ≤ length requests
         → 1 ≤ run program mem s requests .answer .steps .count

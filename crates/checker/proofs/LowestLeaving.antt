@@ -6,12 +6,9 @@ use mathlib.Core.Path.{_≡_, refl, sym, ap₂, subst, _∙_}
 use mathlib.Core.Bool.{Bool, true, false, false≢true, cond, _&&_}
 use mathlib.Core.List.{List, [], _∷_}
 use lib.ListN.{length, getD}
+use Rattle.words.proofs.Cases.{both-of}
 use Rattle.checker.specs.Survey.{in-lowest, passes, first-leaving, lowest-leaving}
 use Rattle.checker.proofs.Sets.{has}
-
-both : (x y : Bool) → (x && y) ≡ true → (x ≡ true) × (y ≡ true)
-both true y t = (refl, t)
-both false y t = absurd (false≢true t)
 
 module _ (limit : ℕ) where
   -- the word at `a + i`, the i-th of those from `a` on, was seen and can leave
@@ -50,7 +47,7 @@ module _ (limit : ℕ) where
           → (rest < suc a + length ws → (i : ℕ) × (rest ≡ suc a + i) × Leaver (suc a) ws (seen / 2) i)
           → cond b a rest < a + suc (length ws) → (i : ℕ) × (cond b a rest ≡ a + i) × Leaver a (w ∷ ws) seen i
       by-test true e later h =
-          let (stood-on, passing) = both (in-lowest seen) (passes limit a w) e in (
+          let (stood-on, passing) = both-of (in-lowest seen) (passes limit a w) e in (
             0,
             sym (add-zero a),
             record {

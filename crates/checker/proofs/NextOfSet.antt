@@ -8,12 +8,13 @@ use mathlib.Core.Logic.{_⊎_, inl, inr, ⊎-elim}
 use mathlib.Core.List.{List, [], _∷_}
 use lib.Dec.{eqb}
 use lib.ListN.{length, getD}
+use Rattle.words.proofs.Cases.{one-of, or-right}
 use Rattle.microwords.specs.Microword.{fields}
 use Rattle.microwords.specs.Codes.{jop}
 use Rattle.checker.specs.Walks.{Leads}
 use Rattle.checker.specs.Survey.{extreme, alone, opcode-words, union, next-set, in-lowest, joined, spread}
 use Rattle.checker.proofs.Sets.{has, has-union, union-lt, alone-lt}
-use Rattle.checker.proofs.PossibleNexts.{one-of, or-right, in-leads, leads-in}
+use Rattle.checker.proofs.PossibleNexts.{in-leads, leads-in}
 
 -- one of the words from `a` on that are in the set leads to `b`
 abbrev pub FromOne : ℕ → List ℕ → ℕ → ℕ → Type 0
@@ -69,15 +70,9 @@ next-set-lt : (a w : ℕ) → next-set a w < 2 ^ 64
 unfolding next-set
 next-set-lt a w = by-code (eqb (fields w .cond) jop)
   where
-    two : ℕ
-    two = union (alone (extreme a w false)) (alone (extreme a w true))
-
-    two-lt : two < 2 ^ 64
-    two-lt = union-lt _ _ (alone-lt _) (alone-lt _)
-
-    by-code : (o : Bool) → cond o (union two opcode-words) two < 2 ^ 64
-    by-code true = union-lt two opcode-words two-lt (omega arith)
-    by-code false = two-lt
+    by-code : (o : Bool) → cond o opcode-words (union (alone (extreme a w false)) (alone (extreme a w true))) < 2 ^ 64
+    by-code true = omega arith
+    by-code false = union-lt _ _ (alone-lt _) (alone-lt _)
 
 pub spread-lt : (ws : List ℕ) (a standing found : ℕ) → found < 2 ^ 64 → spread a ws standing found < 2 ^ 64
 unfolding spread

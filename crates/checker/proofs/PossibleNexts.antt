@@ -6,7 +6,8 @@ use mathlib.Core.Path.{_≡_, refl, sym, ap, subst, _∙_}
 use mathlib.Core.Bool.{Bool, true, false, cond, _&&_, _||_}
 use mathlib.Core.Logic.{_⊎_, inl, inr, ⊎-elim}
 use lib.Dec.{eqb, leb}
-use borrow.Author.Tests.{eqb-true, eq-eqb, leb-true, le-leb}
+use borrow.Author.Tests.{eqb-true, eqb-false, eq-eqb, leb-true, le-leb}
+use Rattle.words.proofs.Cases.{one-of, or-right}
 use Rattle.words.proofs.FieldBounds.{field-lt}
 use Rattle.microwords.specs.Microword.{fields}
 use Rattle.microwords.specs.Codes.{step, jmp, jop, jint, jsm}
@@ -15,14 +16,6 @@ use Rattle.microwords.proofs.SixBits.{next-lt}
 use Rattle.checker.specs.Walks.{next-of, Leads}
 use Rattle.checker.specs.Survey.{extreme, alone, opcode-words, union, next-set, passes}
 use Rattle.checker.proofs.Sets.{has, has-union, has-alone, has-opcode-words, in-opcode-words}
-
-pub one-of : (x y : Bool) → (x || y) ≡ true → (x ≡ true) ⊎ (y ≡ true)
-one-of true y t = inl refl
-one-of false y t = inr t
-
-pub or-right : (x : Bool) → (x || true) ≡ true
-or-right true = refl
-or-right false = refl
 
 module _ (a w : ℕ) where
   -- MPC_UNIT's choice, by its five tests of the code, then by what the two conditional jumps ask for
@@ -34,17 +27,17 @@ module _ (a w : ℕ) where
       (cond i (cond t (fields w .addr) (add-bt6 a 1)) (cond m (cond v (fields w .addr) (add-bt6 a 1)) (add-bt6 a 1)))))
 
   -- whatever the sequencer reads, it gives one of the two extremes, or `jop` goes by the opcode
-  abbrev FarOrOpcode : ℕ → ℕ → ℕ → ℕ → Type 0
-  FarOrOpcode opcode n low high = (n ≡ low) ⊎ ((n ≡ high) ⊎ ((fields w .cond ≡ jop) × (n ≡ add-bt6 opcode 4)))
+  abbrev ExtremeOrOpcode : ℕ → ℕ → ℕ → ℕ → Type 0
+  ExtremeOrOpcode opcode n low high = (n ≡ low) ⊎ ((n ≡ high) ⊎ ((fields w .cond ≡ jop) × (n ≡ add-bt6 opcode 4)))
 
-  far-or-opcode : (opcode : ℕ) (ireq ie sm : Bool) → FarOrOpcode opcode (next-of a w opcode ireq ie sm) (extreme a w false) (extreme a w true)
+  extreme-or-opcode : (opcode : ℕ) (ireq ie sm : Bool) → ExtremeOrOpcode opcode (next-of a w opcode ireq ie sm) (extreme a w false) (extreme a w true)
   unfolding mpc-unit
-  far-or-opcode opcode ireq ie sm =
+  extreme-or-opcode opcode ireq ie sm =
       let code = fields w .cond in
       by-code (eqb code step) (eqb code jmp) (eqb code jop) (eqb-true code jop) (eqb code jint) (eqb code jsm) (ireq && ie) sm
     where
       by-code : (s j o : Bool) → (o ≡ true → fields w .cond ≡ jop) → (i m t v : Bool)
-          → FarOrOpcode opcode (given s j o i m t v opcode) (given s j o i m false false 0) (given s j o i m true true 31)
+          → ExtremeOrOpcode opcode (given s j o i m t v opcode) (given s j o i m false false 0) (given s j o i m true true 31)
       by-code true j o f i m t v = inl refl
       by-code false true o f i m t v = inl refl
       by-code false false true f i m t v = inr (inr (f refl, refl))
@@ -61,7 +54,7 @@ module _ (a w : ℕ) where
   pub low-leads : Leads a w (extreme a w false)
   low-leads = record { opcode = 0; five-bits = omega arith; ireq = false; ie = false; sm = false; gives = refl }
 
-  pub high-leads : Leads a w (extreme a w true)
+  high-leads : Leads a w (extreme a w true)
   high-leads = record { opcode = 31; five-bits = omega arith; ireq = true; ie = true; sm = true; gives = refl }
 
   by-jop : (opcode : ℕ) (ireq ie sm : Bool) → fields w .cond ≡ jop → next-of a w opcode ireq ie sm ≡ add-bt6 opcode 4
@@ -77,6 +70,13 @@ module _ (a w : ℕ) where
   in-two b =
       has-union (alone (extreme a w false)) (alone (extreme a w true)) b
       ∙ rw (has-alone (extreme a w false) b (extreme-lt false), has-alone (extreme a w true) b (extreme-lt true))
+
+  abbrev chosen : Bool → ℕ
+  chosen by-opcode = cond by-opcode opcode-words two
+
+  next-set-is : next-set a w ≡ chosen (eqb (fields w .cond) jop)
+  unfolding next-set two
+  next-set-is = refl
 
   two-leads : (b : ℕ) → has two b ≡ true → Leads a w b
   two-leads b t =
@@ -96,47 +96,34 @@ module _ (a w : ℕ) where
         gives = by-jop (b - 4) false false false e ∙ omega (arith, range .0, range .1);
       }
 
-  abbrev chosen : Bool → ℕ
-  chosen by-opcode = cond by-opcode (union two opcode-words) two
-
-  next-set-is : next-set a w ≡ chosen (eqb (fields w .cond) jop)
-  unfolding next-set two
-  next-set-is = refl
-
   pub in-leads : (b : ℕ) → has (next-set a w) b ≡ true → Leads a w b
   in-leads b t = by-code (eqb (fields w .cond) jop) (eqb-true (fields w .cond) jop) (sym (ap (λ (set : ℕ). has set b) next-set-is) ∙ t)
     where
       by-code : (o : Bool) → (o ≡ true → fields w .cond ≡ jop) → has (chosen o) b ≡ true → Leads a w b
-      by-code true f t =
-          ⊎-elim (two-leads b) (opcode-leads b (f refl)) (one-of (has two b) (has opcode-words b) (sym (has-union two opcode-words b) ∙ t))
+      by-code true f t = opcode-leads b (f refl) t
       by-code false f t = two-leads b t
 
-  in-chosen : (b : ℕ) → has two b ≡ true → (o : Bool) → has (chosen o) b ≡ true
-  in-chosen b t true = has-union two opcode-words b ∙ rw t
-  in-chosen b t false = t
-
-  far-in : (b : ℕ) → (eqb b (extreme a w false) || eqb b (extreme a w true)) ≡ true → has (next-set a w) b ≡ true
-  far-in b t = ap (λ (set : ℕ). has set b) next-set-is ∙ in-chosen b (in-two b ∙ t) (eqb (fields w .cond) jop)
-
-  opcode-in : (opcode : ℕ) → opcode < 2 ^ 5 → fields w .cond ≡ jop → has (next-set a w) (add-bt6 opcode 4) ≡ true
+  opcode-in : (opcode : ℕ) → opcode < 2 ^ 5 → has opcode-words (add-bt6 opcode 4) ≡ true
   unfolding add-bt6
-  opcode-in opcode h e =
-      ap (λ (set : ℕ). has set ((opcode + 4) % 2 ^ 6)) (next-set-is ∙ ap chosen (eq-eqb (fields w .cond) jop e))
-      ∙ has-union two opcode-words ((opcode + 4) % 2 ^ 6)
-      ∙ ap (λ (b : Bool). has two ((opcode + 4) % 2 ^ 6) || b) (ap (has opcode-words) four-up ∙ has-opcode-words opcode h)
-      ∙ or-right (has two ((opcode + 4) % 2 ^ 6))
+  opcode-in opcode h = ap (has opcode-words) four-up ∙ has-opcode-words opcode h
     where
       four-up : (opcode + 4) % 2 ^ 6 ≡ suc (suc (suc (suc opcode)))
       four-up = omega arith
 
   pub leads-in : (b : ℕ) → Leads a w b → has (next-set a w) b ≡ true
-  leads-in b l = by-way (far-or-opcode (l .opcode) (l .ireq) (l .ie) (l .sm))
+  leads-in b l = ap (λ (set : ℕ). has set b) next-set-is ∙ by-code (eqb (fields w .cond) jop) refl
     where
-      by-way : FarOrOpcode (l .opcode) (next-of a w (l .opcode) (l .ireq) (l .ie) (l .sm)) (extreme a w false) (extreme a w true)
-          → has (next-set a w) b ≡ true
-      by-way (inl e) = far-in b (rw (eq-eqb b (extreme a w false) (sym (l .gives) ∙ e)))
-      by-way (inr (inl e)) = far-in b (rw (eq-eqb b (extreme a w true) (sym (l .gives) ∙ e), or-right))
-      by-way (inr (inr (j, e))) = subst (λ (k : ℕ). has (next-set a w) k ≡ true) (sym e ∙ l .gives) (opcode-in (l .opcode) (l .five-bits) j)
+      by-way : eqb (fields w .cond) jop ≡ false
+          → ExtremeOrOpcode (l .opcode) (next-of a w (l .opcode) (l .ireq) (l .ie) (l .sm)) (extreme a w false) (extreme a w true) → has two b ≡ true
+      by-way t (inl e) = in-two b ∙ rw (eq-eqb b (extreme a w false) (sym (l .gives) ∙ e))
+      by-way t (inr (inl e)) = in-two b ∙ rw (eq-eqb b (extreme a w true) (sym (l .gives) ∙ e), or-right)
+      by-way t (inr (inr (j, e))) = absurd (eqb-false (fields w .cond) jop t j)
+
+      by-code : (o : Bool) → eqb (fields w .cond) jop ≡ o → has (chosen o) b ≡ true
+      by-code true t =
+          subst (λ (k : ℕ). has opcode-words k ≡ true) (sym (by-jop (l .opcode) (l .ireq) (l .ie) (l .sm) (eqb-true (fields w .cond) jop t)) ∙ l .gives)
+          (opcode-in (l .opcode) (l .five-bits))
+      by-code false t = by-way t (extreme-or-opcode (l .opcode) (l .ireq) (l .ie) (l .sm))
 
   -- ---- the limit
   pub passes-leads : (limit : ℕ) → passes limit a w ≡ true → (b : ℕ) × Leads a w b × (limit ≤ b)
@@ -147,12 +134,12 @@ module _ (a w : ℕ) where
 
   pub leads-passes : (limit b : ℕ) → Leads a w b → limit ≤ b → passes limit a w ≡ true
   unfolding passes add-bt6
-  leads-passes limit b l h = by-way (far-or-opcode (l .opcode) (l .ireq) (l .ie) (l .sm))
+  leads-passes limit b l h = by-way (extreme-or-opcode (l .opcode) (l .ireq) (l .ie) (l .sm))
     where
       at-high : limit ≤ extreme a w true → (leb limit (extreme a w false) || leb limit (extreme a w true)) ≡ true
       at-high k = rw (le-leb limit (extreme a w true) k, or-right)
 
-      by-way : FarOrOpcode (l .opcode) (next-of a w (l .opcode) (l .ireq) (l .ie) (l .sm)) (extreme a w false) (extreme a w true)
+      by-way : ExtremeOrOpcode (l .opcode) (next-of a w (l .opcode) (l .ireq) (l .ie) (l .sm)) (extreme a w false) (extreme a w true)
           → (leb limit (extreme a w false) || leb limit (extreme a w true)) ≡ true
       by-way (inl e) = rw (le-leb limit (extreme a w false) (subst (λ (k : ℕ). limit ≤ k) (sym (l .gives) ∙ e) h))
       by-way (inr (inl e)) = at-high (subst (λ (k : ℕ). limit ≤ k) (sym (l .gives) ∙ e) h)

@@ -1,4 +1,5 @@
--- THE PUBLISHED MICROPROGRAM IS ACCEPTED WITH 7: the checker's own verdict, computed once over the table.
+-- THE PUBLISHED MICROPROGRAM IS ACCEPTED WITH 7, and no other answer fits it: the checker's own verdict, computed once over the packed
+-- listing. That the table has the same words is the contract of `published::word`.
 use mathlib.Core.Path.{_≡_, refl, subst}
 use Rattle.words.specs.Words.{field, bit}
 use Rattle.answers.specs.Places.{first-place}
@@ -7,8 +8,10 @@ use Rattle.microwords.specs.ControlStore.{legal-store-length, store-test}
 use Rattle.microwords.specs.Sequencer.{add-bt6, mpc-unit}
 use Rattle.published.specs.Assembler.{packed}
 use Rattle.published.specs.Listing.{listing, published}
+use Rattle.checker.specs.declared.Checked.{Checked}
 use Rattle.checker.specs.Meaning.{acceptance, Meant}
 use Rattle.checker.specs.Survey.{alone, union, next-set, spread, advance, survey, passes, first-leaving, verdict}
+use Rattle.checker.proofs.OneAnswerFits.{one-answer-fits}
 use Rattle.checker.proofs.Verdicts.{verdict-meant}
 
 computed : verdict published ≡ acceptance 7
@@ -17,3 +20,6 @@ computed = refl
 
 pub published-accepted : Meant published (acceptance 7)
 published-accepted = subst (Meant published) computed (verdict-meant published)
+
+pub answered-7 : {r : Checked} → Meant published r → r ≡ acceptance 7
+answered-7 meant = one-answer-fits published meant published-accepted

@@ -13,14 +13,15 @@ use lib.Bits.{or-zero-r}
 use lib.ListN.{getD}
 use borrow.Author.Tests.{eqb-true}
 use Rattle.answers.specs.declared.Microcycles.{Microcycles}
+use Rattle.words.proofs.Cases.{one-of, or-right}
 use Rattle.microwords.specs.Sequencer.{fetch-address}
 use Rattle.checker.specs.declared.Survey.{Survey}
 use Rattle.checker.specs.Walks.{Leads, PossibleNext, UnderWay, Walk}
 use Rattle.checker.specs.Walks.UnderWay.{begun, on}
 use Rattle.checker.specs.Walks.Walk.{returned}
-use Rattle.checker.specs.Survey.{union, in-lowest, spread, microcycles, start, advance, survey, rounds, surveyed}
+use Rattle.checker.specs.Meaning.{microcycles}
+use Rattle.checker.specs.Survey.{union, in-lowest, spread, start, advance, survey, rounds, surveyed}
 use Rattle.checker.proofs.Sets.{has, has-none, has-union, union-lt}
-use Rattle.checker.proofs.PossibleNexts.{one-of, or-right}
 use Rattle.checker.proofs.NextOfSet.{spread-from, spread-has, spread-lt}
 use Rattle.checker.proofs.SurveyTurns.{from-nowhere}
 
@@ -164,7 +165,7 @@ module _ (program : List ℕ) where
   unfolding after
   one-more n k = ap (λ (j : ℕ). survey program n j (advance program (microcycles j) (after k))) (add-one k)
 
-  pub survey-is : (n k : ℕ) → survey program n k (after k) ≡ after (n + k)
+  survey-is : (n k : ℕ) → survey program n k (after k) ≡ after (n + k)
   unfolding survey
   survey-is zero k = ap after (sym (zero-add k))
   survey-is (suc n) k = by-test (eqb (after k .standing) 0) (eqb-true (after k .standing) 0) (one-more n k ∙ survey-is n (suc k) ∙ ap after (add-suc n k ∙ sym (suc-add n k)))

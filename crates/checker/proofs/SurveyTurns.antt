@@ -15,7 +15,8 @@ use Rattle.microwords.specs.Microword.{fields}
 use Rattle.microwords.specs.Codes.{jop}
 use Rattle.microwords.proofs.SixBits.{next-low}
 use Rattle.checker.specs.declared.Survey.{Survey}
-use Rattle.checker.specs.Survey.{extreme, alone, opcode-words, union, next-set, in-lowest, joined, spread, microcycles, advance, survey, rounds, passes, first-leaving}
+use Rattle.checker.specs.Meaning.{microcycles}
+use Rattle.checker.specs.Survey.{extreme, alone, opcode-words, union, next-set, in-lowest, joined, spread, advance, survey, rounds, passes, first-leaving}
 
 -- ---- of a word's address the low six bits are read
 next-set-low : (a w : ℕ) → next-set (a % 2 ^ 6) w ≡ next-set a w
@@ -27,18 +28,18 @@ unfolding passes
 passes-low limit a w = rw (next-low a _ _ _ false, next-low a _ _ _ true)
 
 -- ---- the set of a word's next addresses
-module _ (a w : ℕ) {low high x y : ℕ} {m : Microword} (l : low ≡ extreme a w false) (h : high ≡ extreme a w true) (e : x ≡ alone low) (f : y ≡ alone high)
-    (d : m ≡ fields w) where
+module _ (a w : ℕ) {m : Microword} (d : m ≡ fields w) where
   code : m .cond ≡ fields w .cond
   code = ap (λ (k : Microword). k .cond) d
 
-  pub by-opcode : m .cond ≡ jop → bitOr (bitOr x y) opcode-words ≡ next-set a w
-  unfolding next-set union
-  by-opcode t = rw (e, f, l, h, eq-eqb (fields w .cond) jop (sym code ∙ t))
+  pub by-opcode : m .cond ≡ jop → opcode-words ≡ next-set a w
+  unfolding next-set
+  by-opcode t = rw (eq-eqb (fields w .cond) jop (sym code ∙ t))
 
-  pub by-two : (m .cond ≡ jop → ⊥) → bitOr x y ≡ next-set a w
+  pub by-two : {low high x y : ℕ} → (m .cond ≡ jop → ⊥) → low ≡ extreme a w false → high ≡ extreme a w true → x ≡ alone low → y ≡ alone high
+      → bitOr x y ≡ next-set a w
   unfolding next-set union
-  by-two t = rw (e, f, l, h, ne-eqb (fields w .cond) jop (λ q. t (code ∙ q)))
+  by-two t l h e f = rw (e, f, l, h, ne-eqb (fields w .cond) jop (λ q. t (code ∙ q)))
 
 module _ (found standing a w : ℕ) where
   pub joins : {set : ℕ} → standing % 2 ≡ 1 → set ≡ next-set a w → bitOr found set ≡ joined found standing a w

@@ -20,7 +20,7 @@ use Rattle.checker.specs.declared.Survey.{Survey}
 use Rattle.checker.specs.Walks.{UnderWay, Walk}
 use Rattle.checker.specs.Walks.UnderWay.{begun}
 use Rattle.checker.specs.Walks.Walk.{returned}
-use Rattle.checker.specs.Meaning.{most-microcycles, Reached, CanLeave, NoneLeaves, AllBack, Accepted, Leaving, NotBack, refusal, acceptance, Meant}
+use Rattle.checker.specs.Meaning.{most-microcycles, Exit, NoneLeaves, AllBack, Accepted, Leaving, NotBack, refusal, acceptance, Meant}
 use Rattle.checker.specs.Meaning.Meant.{illegal, leaves, not-back, accepted}
 use Rattle.checker.specs.Survey.{lowest-leaving, surveyed, judged, verdict}
 use Rattle.checker.proofs.Sets.{has, has-none, lowest-is-in, lowest-is-least}
@@ -42,8 +42,8 @@ module _ (program : List ℕ) where
   survey-found = surveyed-is program
 
   -- ---- 17
-  none-lower-leaves : (c : ℕ) → Reached program c → CanLeave program c → lowest ≤ c
-  none-lower-leaves c (k, u) (b, next, outside) =
+  no-lower-exit : (c : ℕ) → Exit program c → lowest ≤ c
+  no-lower-exit c ((k, u), (b, next, outside)) =
       let (j, early, v) = reached-early program u in
       none-lower program (found .seen) c (next .0) (stood-seen program most-microcycles j c early v)
       (leads-passes c (getD program c 0) (length program) b (next .1) outside)
@@ -53,22 +53,23 @@ module _ (program : List ℕ) where
       let (seen, passing) = lowest-leaves program (found .seen) h in
       let (j, early, u) = seen-stood program most-microcycles lowest seen in
       let (b, leads, outside) = passes-leads lowest (getD program lowest 0) (length program) passing in
-      record { reached = (j, u); can-leave = (b, (h, leads), outside); lowest = none-lower-leaves }
+      record { there = ((j, u), (b, (h, leads), outside)); none-lower = no-lower-exit }
 
   none-leaves : length program ≤ lowest → NoneLeaves program
-  none-leaves h c reached (b, next, outside) =
-      let least = none-lower-leaves c reached (b, next, outside) in
+  none-leaves h c (reached, (b, next, outside)) =
+      let least = no-lower-exit c (reached, (b, next, outside)) in
       let inside = next .0 in
       omega (arith, h, least, inside)
 
   -- ---- 18
   late : NoneLeaves program → (found .standing ≡ 0 → ⊥) → NotBack program (trailingZeros 64 (found .standing))
-  late inside some =
-      record {
-        none-leaves = inside;
-        stands = standing-under-way program most-microcycles _ (lowest-is-in 64 (found .standing) (standing-lt program most-microcycles) some);
-        lowest = λ c u. lowest-is-least 64 (found .standing) c (under-way-standing program u);
-      }
+  late inside some = (
+    inside,
+    record {
+      there = standing-under-way program most-microcycles _ (lowest-is-in 64 (found .standing) (standing-lt program most-microcycles) some);
+      none-lower = λ c u. lowest-is-least 64 (found .standing) c (under-way-standing program u);
+    },
+  )
 
   -- ---- accepted
   all-back : found .standing ≡ 0 → AllBack program

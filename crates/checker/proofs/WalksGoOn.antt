@@ -31,7 +31,7 @@ module _ (program : List ℕ) where
   module _ (none-leaves : NoneLeaves program) (some : fetch-address < length program) where
     -- a possible next address of a word that is reached is inside
     pub stays-inside : {k a b : ℕ} → UnderWay program k a → PossibleNext program a b → b < length program
-    stays-inside {k} {a} {b} u next = ⊎-elim (λ h. h) (λ h. absurd (none-leaves a (k, u) (b, next, h))) (lt-or-le b (length program))
+    stays-inside {k} {a} {b} u next = ⊎-elim (λ h. h) (λ h. absurd (none-leaves a ((k, u), (b, next, h)))) (lt-or-le b (length program))
 
     pub inside : {k a : ℕ} → UnderWay program k a → a < length program
     inside begun = some

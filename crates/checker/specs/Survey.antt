@@ -18,7 +18,7 @@ use Rattle.microwords.specs.ControlStore.{store-test}
 use Rattle.checker.specs.declared.Checked.{Checked}
 use Rattle.checker.specs.declared.Survey.{Survey}
 use Rattle.checker.specs.Walks.{next-of}
-use Rattle.checker.specs.Meaning.{refusal, acceptance}
+use Rattle.checker.specs.Meaning.{microcycles, refusal, acceptance}
 
 -- the next address where all that the sequencer reads outside the microword is clear, or all is set; but for `jop`, no other is possible
 abbrev pub extreme : ℕ → ℕ → Bool → ℕ
@@ -37,8 +37,7 @@ union x y = bitOr x y
 
 unfoldable pub next-set : ℕ → ℕ → ℕ
 next-set a w =
-    let two = union (alone (extreme a w false)) (alone (extreme a w true)) in
-    cond (eqb (fields w .cond) jop) (union two opcode-words) two
+    cond (eqb (fields w .cond) jop) opcode-words (union (alone (extreme a w false)) (alone (extreme a w true)))
 
 abbrev pub in-lowest : ℕ → Bool
 in-lowest set = eqb (set % 2) 1
@@ -51,9 +50,6 @@ joined found standing a w = cond (in-lowest standing) (union found (next-set a w
 unfoldable pub spread : ℕ → List ℕ → ℕ → ℕ → ℕ
 spread a [] standing found = found
 spread a (w ∷ ws) standing found = spread (suc a) ws (standing / 2) (joined found standing a w)
-
-abbrev pub microcycles : ℕ → Microcycles
-microcycles n = record { count = n }
 
 abbrev pub start : Survey
 start = record { standing = 1; seen = 0; longest = microcycles 0 }

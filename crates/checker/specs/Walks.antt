@@ -25,7 +25,7 @@ pub record Leads (a w b : ℕ) : Type 0 where
 abbrev pub PossibleNext : List ℕ → ℕ → ℕ → Type 0
 PossibleNext program a b = (a < length program) × Leads a (getD program a 0) b
 
--- a walk under way: it has done `k` microcycles since fetch, has not been back, and stands on `a`
+-- a walk under way: it has done `k` microcycles since fetch, has not been back, and stands on `a`, inside or, where it left, outside
 pub data UnderWay (program : List ℕ) : ℕ → ℕ → Type 0 where
   begun : UnderWay program 0 fetch-address
   on : {k a b : ℕ} → UnderWay program k a → PossibleNext program a b → (b ≡ fetch-address → ⊥) → UnderWay program (suc k) b

@@ -44,18 +44,17 @@ fn alone(a: u32) -> u64
     1u64 << (a % 64)
 }
 
-// All possible next addresses of the word at `a`: the two extremes, or any of the opcodes' words.
+// All possible next addresses of the word at `a`: any of the opcodes' words, or the two extremes.
 fn next_set(a: u32, word: u64) -> u64
     ensures { λ r. ⌜ r ≡ next-set a word ⌝ }
 {
-    let low = extreme(a, word, false);
-    let high = extreme(a, word, true);
-    let two = alone(low) | alone(high);
     let m = microwords::microword::fields(word);
     if m.cond == JOP {
-        return two | OPCODE_WORDS;
+        return OPCODE_WORDS;
     }
-    two
+    let low = extreme(a, word, false);
+    let high = extreme(a, word, true);
+    alone(low) | alone(high)
 }
 
 // With the next addresses of the word at `a` too, if the lowest bit of `standing` says so.
@@ -72,6 +71,7 @@ fn joined(found: u64, standing: u64, a: u32, word: u64) -> u64
 fn spread(program: &[u64], standing: u64) -> u64
     ensures { λ r. ⌜ r ≡ spread 0 (now (program .entry)) standing 0 ⌝ }
 {
+    // An address has six bits, however long the slice is: `at % 64` asks for no premise.
     let mut rest = standing;
     let mut found: u64 = 0;
     let mut at: usize = 0;

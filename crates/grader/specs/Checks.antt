@@ -1,5 +1,5 @@
--- avm_check: the checker's answer by the scope's number, with the word that goes with it and, where the microprogram is accepted, the longest
--- walk in microcycles. Assumes nothing.
+-- avm_check: the checker's answer by the scope's number, with the word that goes with it and, where the microprogram is accepted, the
+-- longest walk in microcycles. Assumes nothing.
 use mathlib.Core.Path.{_≡_}
 use mathlib.Core.List.{List}
 use Prim.Native.Nat.{ℕ}

@@ -7,3 +7,4 @@ pub mod RunTests
 pub mod RunCalls
 pub mod RunsInARow
 pub mod CutBy8
+pub mod TestNumbers

@@ -1,8 +1,8 @@
--- Which of two numbers is below the other, tests that follow one another, a test turned round, a choice without a branch: what a proof by
--- cases starts from.
+-- Which of two numbers is below the other, tests that follow one another, a test turned round, a choice without a branch, two tests at
+-- once: what a proof by cases starts from.
 use Prim.Native.Nat.{ℕ, _≤_, _<_}
 use mathlib.Core.Path.{_≡_, refl, sym, _∙_}
-use mathlib.Core.Bool.{Bool, true, false, not, cond, _&&_, _||_}
+use mathlib.Core.Bool.{Bool, true, false, false≢true, not, cond, _&&_, _||_}
 use mathlib.Core.Logic.{_⊎_, inl, inr, ⊎-elim}
 use lib.Dec.{ltb}
 use borrow.Author.Tests.{lt-ltb, le-ltb, ltb-true, ltb-false}
@@ -32,3 +32,16 @@ pub chosen : (take new old : Bool) → ((take && new) || (not take && old)) ≡ 
 chosen true true old = refl
 chosen true false old = refl
 chosen false new old = refl
+
+-- ---- of two tests one holds, or both
+pub one-of : (x y : Bool) → (x || y) ≡ true → (x ≡ true) ⊎ (y ≡ true)
+one-of true y t = inl refl
+one-of false y t = inr t
+
+pub or-right : (x : Bool) → (x || true) ≡ true
+or-right true = refl
+or-right false = refl
+
+pub both-of : (x y : Bool) → (x && y) ≡ true → (x ≡ true) × (y ≡ true)
+both-of true y t = (refl, t)
+both-of false y t = absurd (false≢true t)

@@ -1,4 +1,4 @@
--- The two extremes are the farthest.
+-- The code's two tests are the definition's.
 use borrow.Author.Needs.{needs}
 use Rattle.checker.specs.Survey.{passes}
 use Rattle.checker.proofs.passes.Statement.{statement}
