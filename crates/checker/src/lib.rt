@@ -38,6 +38,7 @@ fn extreme(a: u32, word: u64, b: bool) -> u32
     microwords::sequencer::next_address(a, (b as u32) * 31, m.addr, m.cond, b, b, b)
 }
 
+// The set of one address.
 fn alone(a: u32) -> u64
     ensures { λ r. ⌜ r ≡ alone a ⌝ }
 {
@@ -67,11 +68,11 @@ fn joined(found: u64, standing: u64, a: u32, word: u64) -> u64
     found
 }
 
-// The next addresses of all words in a set.
+// The next addresses of all words in a set. An address has six bits, however long the slice is, so
+// `at % 64` asks for no premise.
 fn spread(program: &[u64], standing: u64) -> u64
     ensures { λ r. ⌜ r ≡ spread 0 (now (program .entry)) standing 0 ⌝ }
 {
-    // An address has six bits, however long the slice is: `at % 64` asks for no premise.
     let mut rest = standing;
     let mut found: u64 = 0;
     let mut at: usize = 0;
@@ -166,6 +167,7 @@ fn lowest(set: u64) -> usize
     u64::trailing_zeros(set) as usize
 }
 
+// A refusal has no length.
 fn refusal(end: End) -> Checked
     ensures { λ r. ⌜ r ≡ refusal end ⌝ }
 {
