@@ -4,7 +4,7 @@ use native.Mathlib.Numerals.{add-one}
 use native.Mathlib.Omega.{arith}
 use mathlib.Core.Path.{_≡_, refl, sym, ap, _∙_}
 use mathlib.Core.Bool.{Bool, true, false, cond, _&&_}
-use mathlib.Core.List.{List, [], _∷_}
+use mathlib.Core.List.{List}
 use lib.ListN.{length, getD, drop}
 use lib.Seq.{drop-cons, drop-length}
 use lib.Bits.{bitOr}
@@ -14,9 +14,10 @@ use Rattle.microwords.specs.declared.microword.Microword.{Microword}
 use Rattle.microwords.specs.Microword.{fields}
 use Rattle.microwords.specs.Codes.{jop}
 use Rattle.microwords.proofs.SixBits.{next-low}
-use Rattle.checker.specs.declared.Survey.{Survey}
-use Rattle.checker.specs.Meaning.{microcycles}
-use Rattle.checker.specs.Survey.{extreme, alone, opcode-words, union, next-set, in-lowest, joined, spread, advance, survey, rounds, passes, first-leaving}
+use Rattle.walks.specs.declared.Survey.{Survey}
+use Rattle.walks.proofs.NextOfSet.{from-nowhere}
+use Rattle.walks.specs.Meaning.{microcycles}
+use Rattle.walks.specs.Survey.{extreme, alone, opcode-words, union, next-set, in-lowest, joined, spread, advance, survey, rounds, passes, first-leaving}
 
 -- ---- of a word's address the low six bits are read
 next-set-low : (a w : ℕ) → next-set (a % 2 ^ 6) w ≡ next-set a w
@@ -49,12 +50,7 @@ module _ (found standing a w : ℕ) where
   pub joins-nothing : (standing % 2 ≡ 1 → ⊥) → found ≡ joined found standing a w
   joins-nothing t = rw (ne-eqb (standing % 2) 1 t)
 
--- ---- the next addresses of a set; from nowhere nothing leads anywhere
-pub from-nowhere : (ws : List ℕ) (a found : ℕ) → spread a ws 0 found ≡ found
-unfolding spread
-from-nowhere [] a found = refl
-from-nowhere (w ∷ ws) a found = from-nowhere ws (suc a) found
-
+-- ---- the next addresses of a set
 module _ (program : List ℕ) (rest found at : ℕ) where
   pub spread-more : {next : ℕ} → at < length program → next ≡ joined found rest (at % 2 ^ 6) (getD program at 0)
       → spread at (drop at program) rest found ≡ spread (at + 1) (drop (at + 1) program) (rest / 2) next

@@ -11,11 +11,11 @@ use Rattle.answers.specs.declared.End.{End}
 use Rattle.answers.specs.declared.End.the-variants.{Done, WalkLeaves, WalkNotBack}
 use Rattle.answers.specs.Ends.{is-done}
 use Rattle.microwords.specs.ControlStore.{store-test}
-use Rattle.checker.specs.declared.Checked.{Checked}
-use Rattle.checker.specs.declared.Survey.{Survey}
-use Rattle.checker.specs.Meaning.{refusal, Meant}
-use Rattle.checker.specs.Survey.{surveyed, lowest-leaving, judged, verdict}
-use Rattle.checker.proofs.Verdicts.{verdict-meant}
+use Rattle.walks.specs.declared.Checked.{Checked}
+use Rattle.walks.specs.declared.Survey.{Survey}
+use Rattle.walks.specs.Meaning.{refusal, Meant}
+use Rattle.walks.specs.Survey.{surveyed, lowest-leaving, judged, verdict}
+use Rattle.walks.proofs.Verdicts.{verdict-meant}
 
 module _ (program : List ℕ) {test : End} {ok : Bool} (e : test ≡ store-test program) (d : ok ≡ is-done test) where
   tested : ok ≡ is-done (store-test program)

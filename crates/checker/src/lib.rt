@@ -3,10 +3,12 @@
 ghost use mathlib.Core.Bool.{cond};
 ghost use mathlib.Core.Path.{_≡_};
 ghost use lib.Count.{trailingZeros};
-ghost use Rattle.checker.specs.Meaning.{refusal, Meant};
-ghost use Rattle.checker.specs.Survey.{extreme, alone, next-set, joined, spread, advance, surveyed, passes, lowest-leaving};
+ghost use Rattle.walks.specs.Meaning.{refusal, Meant};
+ghost use Rattle.walks.specs.Survey.{extreme, alone, next-set, joined, spread, advance, surveyed, passes, lowest-leaving};
 use answers::End;
 use answers::Microcycles;
+use walks::Checked;
+use walks::Survey;
 
 // Walks are taken on for so many microcycles.
 const ROUNDS: u64 = 64;
@@ -15,20 +17,6 @@ const ROUNDS: u64 = 64;
 const JOP: u32 = 2;
 
 const OPCODE_WORDS: u64 = 0xF_FFFF_FFF0;
-
-// Accepted with the longest walk, or the end that says why not.
-pub struct Checked {
-    pub end: End,
-    pub longest: Microcycles,
-}
-
-// What is known after some microcycles of all walks: the words on which walks now stand, those on
-// which they stood before, and the longest walk that is back.
-pub struct Survey {
-    pub standing: u64,
-    pub seen: u64,
-    pub longest: Microcycles,
-}
 
 // Where the sequencer leads from the word at `a` if all that it reads outside the microword is `b`.
 fn extreme(a: u32, word: u64, b: bool) -> u32

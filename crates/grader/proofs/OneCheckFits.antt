@@ -2,8 +2,8 @@
 use Prim.Native.Nat.{ℕ}
 use mathlib.Core.Path.{_≡_, sym, ap, _∙_}
 use mathlib.Core.List.{List}
-use Rattle.checker.specs.declared.Checked.{Checked}
-use Rattle.checker.proofs.OneAnswerFits.{one-answer-fits}
+use Rattle.walks.specs.declared.Checked.{Checked}
+use Rattle.walks.proofs.OneAnswerFits.{one-answer-fits}
 use Rattle.grader.specs.declared.Answer.{Answer}
 use Rattle.grader.specs.Answers.{answered}
 use Rattle.grader.specs.Checks.{CheckAnswer}

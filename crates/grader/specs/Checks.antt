@@ -3,8 +3,8 @@
 use mathlib.Core.Path.{_≡_}
 use mathlib.Core.List.{List}
 use Prim.Native.Nat.{ℕ}
-use Rattle.checker.specs.declared.Checked.{Checked}
-use Rattle.checker.specs.Meaning.{Meant}
+use Rattle.walks.specs.declared.Checked.{Checked}
+use Rattle.walks.specs.Meaning.{Meant}
 use Rattle.grader.specs.declared.Answer.{Answer}
 use Rattle.grader.specs.Answers.{answered}
 

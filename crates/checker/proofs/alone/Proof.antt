@@ -3,7 +3,7 @@ use borrow.Author.Needs.{needs}
 use Prim.Native.Nat.{_%_, _^_}
 use native.Mathlib.Omega.{arith}
 use lib.Pow.{shl-exact}
-use Rattle.checker.specs.Survey.{alone}
+use Rattle.walks.specs.Survey.{alone}
 use Rattle.checker.proofs.alone.Statement.{statement}
 use Rattle.checker.proofs.alone.Tie as tie
 

@@ -4,7 +4,7 @@ use Prim.Native.Nat.{_≤_, _-_}
 use native.Mathlib.Omega.{arith}
 use mathlib.Core.Path.{_≡_, refl, sym, _∙_}
 use lib.ListN.{length, drop}
-use Rattle.checker.specs.Survey.{first-leaving, lowest-leaving}
+use Rattle.walks.specs.Survey.{first-leaving, lowest-leaving}
 use Rattle.checker.proofs.SurveyTurns.{leaving-here, leaving-later, none-leaving}
 use Rattle.checker.proofs.lowest_leaving.Statement.{statement}
 use Rattle.checker.proofs.lowest_leaving.Tie as tie

@@ -1,6 +1,6 @@
 -- The code's two tests are the definition's.
 use borrow.Author.Needs.{needs}
-use Rattle.checker.specs.Survey.{passes}
+use Rattle.walks.specs.Survey.{passes}
 use Rattle.checker.proofs.passes.Statement.{statement}
 use Rattle.checker.proofs.passes.Tie as tie
 

@@ -4,7 +4,7 @@ use Prim.Native.Nat.{_≤_, _-_}
 use native.Mathlib.Omega.{arith}
 use mathlib.Core.Path.{_≡_, refl, sym, _∙_}
 use lib.ListN.{length, drop}
-use Rattle.checker.specs.Survey.{spread}
+use Rattle.walks.specs.Survey.{spread}
 use Rattle.checker.proofs.SurveyTurns.{spread-more, spread-nothing, spread-over}
 use Rattle.checker.proofs.spread.Statement.{statement}
 use Rattle.checker.proofs.spread.Tie as tie

@@ -2,7 +2,7 @@
 use borrow.Author.Needs.{needs}
 use Prim.Native.Nat.{_≤_, _-_}
 use mathlib.Core.Path.{_≡_, refl, sym, _∙_}
-use Rattle.checker.specs.Survey.{survey, rounds, surveyed}
+use Rattle.walks.specs.Survey.{survey, rounds, surveyed}
 use Rattle.checker.proofs.SurveyTurns.{walks-on, none-under-way, all-done}
 use Rattle.checker.proofs.surveyed.Statement.{statement}
 use Rattle.checker.proofs.surveyed.Tie as tie

@@ -7,8 +7,8 @@ use mathlib.Core.Bool.{Bool, true, false, false≢true, cond, _&&_}
 use mathlib.Core.List.{List, [], _∷_}
 use lib.ListN.{length, getD}
 use Rattle.words.proofs.Cases.{both-of}
-use Rattle.checker.specs.Survey.{in-lowest, passes, first-leaving, lowest-leaving}
-use Rattle.checker.proofs.Sets.{has}
+use Rattle.walks.specs.Survey.{in-lowest, passes, first-leaving, lowest-leaving}
+use Rattle.walks.proofs.Sets.{has}
 
 module _ (limit : ℕ) where
   -- the word at `a + i`, the i-th of those from `a` on, was seen and can leave

@@ -30,11 +30,11 @@ use Rattle.micro_level.specs.Run.{RanOn, at-fetch, run-on, MicroCalled, micro-t
 use Rattle.micro_level.proofs.RunInduction.{goes-on}
 use Rattle.micro_level.proofs.RunJoins.{joined}
 use Rattle.micro_level.proofs.TestNumbers.{at-most-7}
-use Rattle.checker.specs.Walks.{PossibleNext, UnderWay, Walk}
-use Rattle.checker.specs.Walks.UnderWay.{begun, on}
-use Rattle.checker.specs.Walks.Walk.{returned}
-use Rattle.checker.specs.Meaning.{Accepted}
-use Rattle.checker.proofs.WalksGoOn.{stays-inside, inside, comes-back}
+use Rattle.walks.specs.Walks.{PossibleNext, UnderWay, Walk}
+use Rattle.walks.specs.Walks.UnderWay.{begun, on}
+use Rattle.walks.specs.Walks.Walk.{returned}
+use Rattle.walks.specs.Meaning.{Accepted}
+use Rattle.walks.proofs.WalksGoOn.{stays-inside, inside, comes-back}
 
 -- what a microcycle does next is possible
 possible : (program : List ℕ) (s : MicroMachine) (request : ℕ) → s .mpc < length program → PossibleNext program (s .mpc) (next-address program s request)

@@ -15,15 +15,14 @@ use borrow.Author.Tests.{eqb-true}
 use Rattle.answers.specs.declared.Microcycles.{Microcycles}
 use Rattle.words.proofs.Cases.{one-of, or-right}
 use Rattle.microwords.specs.Sequencer.{fetch-address}
-use Rattle.checker.specs.declared.Survey.{Survey}
-use Rattle.checker.specs.Walks.{Leads, PossibleNext, UnderWay, Walk}
-use Rattle.checker.specs.Walks.UnderWay.{begun, on}
-use Rattle.checker.specs.Walks.Walk.{returned}
-use Rattle.checker.specs.Meaning.{microcycles}
-use Rattle.checker.specs.Survey.{union, in-lowest, spread, start, advance, survey, rounds, surveyed}
-use Rattle.checker.proofs.Sets.{has, has-none, has-union, union-lt}
-use Rattle.checker.proofs.NextOfSet.{spread-from, spread-has, spread-lt}
-use Rattle.checker.proofs.SurveyTurns.{from-nowhere}
+use Rattle.walks.specs.declared.Survey.{Survey}
+use Rattle.walks.specs.Walks.{Leads, PossibleNext, UnderWay, Walk}
+use Rattle.walks.specs.Walks.UnderWay.{begun, on}
+use Rattle.walks.specs.Walks.Walk.{returned}
+use Rattle.walks.specs.Meaning.{microcycles}
+use Rattle.walks.specs.Survey.{union, in-lowest, spread, start, advance, survey, rounds, surveyed}
+use Rattle.walks.proofs.Sets.{has, has-none, has-union, union-lt}
+use Rattle.walks.proofs.NextOfSet.{spread-from, spread-has, from-nowhere, spread-lt}
 
 -- ---- the even part of a set is the set without fetch
 even-low : (n : ℕ) → in-lowest (n / 2 * 2) ≡ false

@@ -10,8 +10,8 @@ use Rattle.answers.specs.declared.End.{End}
 use Rattle.answers.specs.declared.End.the-variants.{Done, WalkLeaves, WalkNotBack}
 use Rattle.answers.specs.Ends.{is-done}
 use Rattle.microwords.specs.ControlStore.{store-test}
-use Rattle.checker.specs.declared.Checked.{Checked}
-use Rattle.checker.specs.Walks.{PossibleNext, UnderWay, Walk}
+use Rattle.walks.specs.declared.Checked.{Checked}
+use Rattle.walks.specs.Walks.{PossibleNext, UnderWay, Walk}
 
 -- the microcycles within which every walk must be back
 abbrev pub most-microcycles : ℕ

@@ -7,12 +7,12 @@ use mathlib.Core.Bool.{true}
 use mathlib.Core.Logic.{_⊎_, inl, inr, ⊎-elim}
 use mathlib.Core.List.{List}
 use lib.Count.{ones, ones-le}
-use Rattle.checker.specs.Walks.{UnderWay}
-use Rattle.checker.specs.Walks.UnderWay.{begun, on}
-use Rattle.checker.specs.Meaning.{most-microcycles}
-use Rattle.checker.specs.Survey.{union}
-use Rattle.checker.proofs.Sets.{has, nothing-or-more}
-use Rattle.checker.proofs.Standing.{after, seen-more, seen-stood, stood-seen, standing-lt, seen-lt}
+use Rattle.walks.specs.Walks.{UnderWay}
+use Rattle.walks.specs.Walks.UnderWay.{begun, on}
+use Rattle.walks.specs.Meaning.{most-microcycles}
+use Rattle.walks.specs.Survey.{union}
+use Rattle.walks.proofs.Sets.{has, nothing-or-more}
+use Rattle.walks.proofs.Standing.{after, seen-more, seen-stood, stood-seen, standing-lt, seen-lt}
 
 module _ (program : List ℕ) where
   -- a walk stands on the word after fewer than n microcycles

@@ -11,10 +11,10 @@ use lib.ListN.{length, getD}
 use Rattle.words.proofs.Cases.{one-of, or-right}
 use Rattle.microwords.specs.Microword.{fields}
 use Rattle.microwords.specs.Codes.{jop}
-use Rattle.checker.specs.Walks.{Leads}
-use Rattle.checker.specs.Survey.{extreme, alone, opcode-words, union, next-set, in-lowest, joined, spread}
-use Rattle.checker.proofs.Sets.{has, has-union, union-lt, alone-lt}
-use Rattle.checker.proofs.PossibleNexts.{in-leads, leads-in}
+use Rattle.walks.specs.Walks.{Leads}
+use Rattle.walks.specs.Survey.{extreme, alone, opcode-words, union, next-set, in-lowest, joined, spread}
+use Rattle.walks.proofs.Sets.{has, has-union, union-lt, alone-lt}
+use Rattle.walks.proofs.PossibleNexts.{in-leads, leads-in}
 
 -- one of the words from `a` on that are in the set leads to `b`
 abbrev pub FromOne : ℕ → List ℕ → ℕ → ℕ → Type 0
@@ -64,6 +64,12 @@ module _ (b : ℕ) where
   spread-has (w ∷ ws) a standing found (suc i, h, t, l) =
       spread-has ws (suc a) (standing / 2) (joined found standing a w)
       (i, le-of-suc-le-suc h, t, subst (λ (k : ℕ). Leads k (getD ws i 0) b) (add-suc a i ∙ sym (suc-add a i)) l)
+
+-- from nowhere nothing leads anywhere
+pub from-nowhere : (ws : List ℕ) (a found : ℕ) → spread a ws 0 found ≡ found
+unfolding spread
+from-nowhere [] a found = refl
+from-nowhere (w ∷ ws) a found = from-nowhere ws (suc a) found
 
 -- ---- sets of 64 bits
 next-set-lt : (a w : ℕ) → next-set a w < 2 ^ 64

@@ -16,19 +16,19 @@ use Rattle.answers.proofs.OneNumberAnEnd.{only-done-is-done}
 use Rattle.microwords.specs.ControlStore.{store-test}
 use Rattle.microwords.specs.Sequencer.{fetch-address}
 use Rattle.microwords.proofs.StoreTest.{some-word}
-use Rattle.checker.specs.declared.Survey.{Survey}
-use Rattle.checker.specs.Walks.{UnderWay, Walk}
-use Rattle.checker.specs.Walks.UnderWay.{begun}
-use Rattle.checker.specs.Walks.Walk.{returned}
-use Rattle.checker.specs.Meaning.{most-microcycles, Exit, NoneLeaves, AllBack, Accepted, Leaving, NotBack, refusal, acceptance, Meant}
-use Rattle.checker.specs.Meaning.Meant.{illegal, leaves, not-back, accepted}
-use Rattle.checker.specs.Survey.{lowest-leaving, surveyed, judged, verdict}
-use Rattle.checker.proofs.Sets.{has, has-none, lowest-is-in, lowest-is-least}
-use Rattle.checker.proofs.PossibleNexts.{passes-leads, leads-passes}
-use Rattle.checker.proofs.Standing.{after, standing-under-way, under-way-standing, seen-stood, stood-seen, longest-walk, none-longer, standing-lt, surveyed-is}
-use Rattle.checker.proofs.ReachedEarly.{reached-early}
-use Rattle.checker.proofs.LowestLeaving.{lowest-leaves, none-lower}
-use Rattle.checker.proofs.WalksGoOn.{passed-through, comes-back}
+use Rattle.walks.specs.declared.Survey.{Survey}
+use Rattle.walks.specs.Walks.{UnderWay, Walk}
+use Rattle.walks.specs.Walks.UnderWay.{begun}
+use Rattle.walks.specs.Walks.Walk.{returned}
+use Rattle.walks.specs.Meaning.{most-microcycles, Exit, NoneLeaves, AllBack, Accepted, Leaving, NotBack, refusal, acceptance, Meant}
+use Rattle.walks.specs.Meaning.Meant.{illegal, leaves, not-back, accepted}
+use Rattle.walks.specs.Survey.{lowest-leaving, surveyed, judged, verdict}
+use Rattle.walks.proofs.Sets.{has, has-none, lowest-is-in, lowest-is-least}
+use Rattle.walks.proofs.PossibleNexts.{passes-leads, leads-passes}
+use Rattle.walks.proofs.Standing.{after, standing-under-way, under-way-standing, seen-stood, stood-seen, longest-walk, none-longer, standing-lt, surveyed-is}
+use Rattle.walks.proofs.ReachedEarly.{reached-early}
+use Rattle.walks.proofs.LowestLeaving.{lowest-leaves, none-lower}
+use Rattle.walks.proofs.WalksGoOn.{passed-through, comes-back}
 
 module _ (program : List ℕ) where
   -- the survey's end

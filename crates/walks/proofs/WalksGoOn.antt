@@ -10,12 +10,12 @@ use mathlib.Core.List.{List}
 use lib.ListN.{length, getD}
 use Rattle.words.proofs.Cases.{lt-or-le}
 use Rattle.microwords.specs.Sequencer.{fetch-address}
-use Rattle.checker.specs.Walks.{PossibleNext, UnderWay, Walk}
-use Rattle.checker.specs.Walks.UnderWay.{begun, on}
-use Rattle.checker.specs.Walks.Walk.{returned}
-use Rattle.checker.specs.Meaning.{most-microcycles, NoneLeaves, AllBack}
-use Rattle.checker.specs.Survey.{extreme}
-use Rattle.checker.proofs.PossibleNexts.{low-leads}
+use Rattle.walks.specs.Walks.{PossibleNext, UnderWay, Walk}
+use Rattle.walks.specs.Walks.UnderWay.{begun, on}
+use Rattle.walks.specs.Walks.Walk.{returned}
+use Rattle.walks.specs.Meaning.{most-microcycles, NoneLeaves, AllBack}
+use Rattle.walks.specs.Survey.{extreme}
+use Rattle.walks.proofs.PossibleNexts.{low-leads}
 
 at-fetch-or-not : (a : ℕ) → (a ≡ fetch-address) ⊎ (a ≡ fetch-address → ⊥)
 at-fetch-or-not zero = inl refl

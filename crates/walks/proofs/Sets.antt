@@ -10,7 +10,7 @@ use lib.Dec.{eqb, eqb·zero-suc, eqb·suc-zero, eqb·suc-suc}
 use lib.Bits.{bitOr, or-shr, or-mod, or-lt}
 use lib.Count.{ones, ones-step, under, trailingZeros}
 use lib.Pow.{pow-pos, pow-lt}
-use Rattle.checker.specs.Survey.{alone, opcode-words, union, in-lowest}
+use Rattle.walks.specs.Survey.{alone, opcode-words, union, in-lowest}
 
 -- the address `a` is in the set
 abbrev pub has : ℕ → ℕ → Bool

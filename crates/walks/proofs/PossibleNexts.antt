@@ -13,9 +13,9 @@ use Rattle.microwords.specs.Microword.{fields}
 use Rattle.microwords.specs.Codes.{step, jmp, jop, jint, jsm}
 use Rattle.microwords.specs.Sequencer.{add-bt6, mpc-unit}
 use Rattle.microwords.proofs.SixBits.{next-lt}
-use Rattle.checker.specs.Walks.{next-of, Leads}
-use Rattle.checker.specs.Survey.{extreme, alone, opcode-words, union, next-set, passes}
-use Rattle.checker.proofs.Sets.{has, has-union, has-alone, has-opcode-words, in-opcode-words}
+use Rattle.walks.specs.Walks.{next-of, Leads}
+use Rattle.walks.specs.Survey.{extreme, alone, opcode-words, union, next-set, passes}
+use Rattle.walks.proofs.Sets.{has, has-union, has-alone, has-opcode-words, in-opcode-words}
 
 module _ (a w : ℕ) where
   -- MPC_UNIT's choice, by its five tests of the code, then by what the two conditional jumps ask for

@@ -8,11 +8,11 @@ use Rattle.microwords.specs.ControlStore.{legal-store-length, store-test}
 use Rattle.microwords.specs.Sequencer.{add-bt6, mpc-unit}
 use Rattle.published.specs.Assembler.{packed}
 use Rattle.published.specs.Listing.{listing, published}
-use Rattle.checker.specs.declared.Checked.{Checked}
-use Rattle.checker.specs.Meaning.{acceptance, Meant}
-use Rattle.checker.specs.Survey.{alone, union, next-set, spread, advance, survey, passes, first-leaving, verdict}
-use Rattle.checker.proofs.OneAnswerFits.{one-answer-fits}
-use Rattle.checker.proofs.Verdicts.{verdict-meant}
+use Rattle.walks.specs.declared.Checked.{Checked}
+use Rattle.walks.specs.Meaning.{acceptance, Meant}
+use Rattle.walks.specs.Survey.{alone, union, next-set, spread, advance, survey, passes, first-leaving, verdict}
+use Rattle.walks.proofs.OneAnswerFits.{one-answer-fits}
+use Rattle.walks.proofs.Verdicts.{verdict-meant}
 
 computed : verdict published ≡ acceptance 7
 unfolding verdict store-test legal-store-length first-place legal-microword published listing packed field bit mpc-unit add-bt6 alone union next-set spread advance survey passes first-leaving

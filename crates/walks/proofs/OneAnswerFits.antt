@@ -8,9 +8,9 @@ use Rattle.answers.specs.declared.End.{End}
 use Rattle.answers.specs.declared.End.the-variants.{Done, WalkLeaves, WalkNotBack}
 use Rattle.answers.specs.Ends.{is-done}
 use Rattle.microwords.specs.ControlStore.{store-test}
-use Rattle.checker.specs.declared.Checked.{Checked}
-use Rattle.checker.specs.Meaning.{most-microcycles, NoneLeaves, Lowest, Accepted, Leaving, NotBack, refusal, acceptance, Meant}
-use Rattle.checker.specs.Meaning.Meant.{illegal, leaves, not-back, accepted}
+use Rattle.walks.specs.declared.Checked.{Checked}
+use Rattle.walks.specs.Meaning.{most-microcycles, NoneLeaves, Lowest, Accepted, Leaving, NotBack, refusal, acceptance, Meant}
+use Rattle.walks.specs.Meaning.Meant.{illegal, leaves, not-back, accepted}
 
 one-lowest : {Kind : ℕ → Type 0} {a c : ℕ} → Lowest Kind a → Lowest Kind c → a ≡ c
 one-lowest {Kind} {a} {c} l m = let up = l .none-lower c (m .there) in let down = m .none-lower a (l .there) in omega (arith, up, down)

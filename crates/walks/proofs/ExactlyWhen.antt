@@ -12,10 +12,10 @@ use Rattle.answers.specs.declared.End.the-variants.{Done, WalkLeaves, WalkNotBa
 use Rattle.answers.specs.Ends.{shown, is-done}
 use Rattle.microwords.specs.ControlStore.{store-test}
 use Rattle.microwords.proofs.StoreTest.{at-most-5}
-use Rattle.checker.specs.declared.Checked.{Checked}
-use Rattle.checker.specs.Meaning.{Accepted, Leaving, NotBack, refusal, acceptance, Meant}
-use Rattle.checker.specs.Meaning.Meant.{illegal, leaves, not-back, accepted}
-use Rattle.checker.proofs.OneAnswerFits.{one-answer-fits}
+use Rattle.walks.specs.declared.Checked.{Checked}
+use Rattle.walks.specs.Meaning.{Accepted, Leaving, NotBack, refusal, acceptance, Meant}
+use Rattle.walks.specs.Meaning.Meant.{illegal, leaves, not-back, accepted}
+use Rattle.walks.proofs.OneAnswerFits.{one-answer-fits}
 
 -- what tells answers apart
 abbrev number : Checked → ℕ

@@ -10,9 +10,9 @@ use Rattle.answers.specs.Places.{first-place}
 use Rattle.microwords.specs.Codes.{jmp, legal-microword}
 use Rattle.microwords.specs.ControlStore.{legal-store-length, store-test}
 use Rattle.microwords.specs.Sequencer.{add-bt6, mpc-unit}
-use Rattle.checker.specs.declared.Checked.{Checked}
-use Rattle.checker.specs.Meaning.{refusal, acceptance}
-use Rattle.checker.specs.Survey.{alone, union, next-set, spread, advance, survey, passes, first-leaving, verdict}
+use Rattle.walks.specs.declared.Checked.{Checked}
+use Rattle.walks.specs.Meaning.{refusal, acceptance}
+use Rattle.walks.specs.Survey.{alone, union, next-set, spread, advance, survey, passes, first-leaving, verdict}
 
 abbrev jump-to : ℕ → ℕ
 jump-to a = jmp * 2 ^ 6 + a

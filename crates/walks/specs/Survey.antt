@@ -15,10 +15,10 @@ use Rattle.answers.specs.Ends.{is-done}
 use Rattle.microwords.specs.Codes.{jop}
 use Rattle.microwords.specs.Microword.{fields}
 use Rattle.microwords.specs.ControlStore.{store-test}
-use Rattle.checker.specs.declared.Checked.{Checked}
-use Rattle.checker.specs.declared.Survey.{Survey}
-use Rattle.checker.specs.Walks.{next-of}
-use Rattle.checker.specs.Meaning.{microcycles, refusal, acceptance}
+use Rattle.walks.specs.declared.Checked.{Checked}
+use Rattle.walks.specs.declared.Survey.{Survey}
+use Rattle.walks.specs.Walks.{next-of}
+use Rattle.walks.specs.Meaning.{microcycles, refusal, acceptance}
 
 -- the next address where all that the sequencer reads outside the microword is clear, or all is set; but for `jop`, no other is possible
 abbrev pub extreme : ℕ → ℕ → Bool → ℕ
