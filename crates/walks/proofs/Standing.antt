@@ -50,6 +50,19 @@ module _ (program : List ℕ) where
   next : ℕ → ℕ
   next k = spread 0 program (after k .standing) 0
 
+  -- ---- one microcycle more
+  standing-next : (k : ℕ) → after (suc k) .standing ≡ next k / 2 * 2
+  unfolding after advance next
+  standing-next k = refl
+
+  pub seen-more : (k : ℕ) → after (suc k) .seen ≡ union (after k .seen) (after k .standing)
+  unfolding after advance
+  seen-more k = refl
+
+  longest-next : (k : ℕ) → after (suc k) .longest ≡ cond (in-lowest (next k)) (microcycles (suc k)) (after k .longest)
+  unfolding after advance next
+  longest-next k = refl
+
   -- ---- the words on which walks stand
   abbrev Stepped : ℕ → ℕ → Type 0
   Stepped k b = (a : ℕ) × UnderWay program k a × PossibleNext program a b
@@ -66,36 +79,38 @@ module _ (program : List ℕ) where
   next-has k a b t n =
       spread-has b program 0 (after k .standing) 0 (a, n .0, t, subst (λ (i : ℕ). Leads i (getD program a 0) b) (sym (zero-add a)) (n .1))
 
+  pub under-way-standing : {k a : ℕ} → UnderWay program k a → has (after k .standing) a ≡ true
+  unfolding after
+  under-way-standing begun = refl
+  under-way-standing (on {k} {a} {b} u n away) =
+      subst (λ (set : ℕ). has set b ≡ true) (sym (standing-next k)) (without-fetch (next k) b away (next-has k a b (under-way-standing u) n))
+
   pub standing-under-way : (k a : ℕ) → has (after k .standing) a ≡ true → UnderWay program k a
-  unfolding after advance next
+  unfolding after
   standing-under-way zero zero t = begun
   standing-under-way zero (suc a) t = absurd (false≢true (sym (has-none a) ∙ t))
-  standing-under-way (suc k) zero t = absurd (false≢true (sym (even-low (next k)) ∙ t))
+  standing-under-way (suc k) zero t =
+      absurd (false≢true (sym (even-low (next k)) ∙ subst (λ (set : ℕ). has set 0 ≡ true) (standing-next k) t))
   standing-under-way (suc k) (suc a) t =
-      let (c, u, n) = next-stepped k (suc a) (standing-under-way k) (sym (even-high (next k) a) ∙ t) in on u n (λ e. absurd (omega (arith, e)))
-
-  pub under-way-standing : {k a : ℕ} → UnderWay program k a → has (after k .standing) a ≡ true
-  unfolding after advance next
-  under-way-standing begun = refl
-  under-way-standing (on {k} {a} {b} u n away) = without-fetch (next k) b away (next-has k a b (under-way-standing u) n)
+      let there = sym (even-high (next k) a) ∙ subst (λ (set : ℕ). has set (suc a) ≡ true) (standing-next k) t in
+      let (c, u, n) = next-stepped k (suc a) (standing-under-way k) there in
+      on u n (λ e. absurd (omega (arith, e)))
 
   -- ---- the words on which shorter walks stood
-  pub seen-more : (k : ℕ) → after (suc k) .seen ≡ union (after k .seen) (after k .standing)
-  unfolding after advance
-  seen-more k = refl
+  in-seen : (k a : ℕ) → has (after (suc k) .seen) a ≡ (has (after k .seen) a || has (after k .standing) a)
+  in-seen k a = ap (λ (set : ℕ). has set a) (seen-more k) ∙ has-union (after k .seen) (after k .standing) a
 
   pub seen-stood : (k a : ℕ) → has (after k .seen) a ≡ true → (j : ℕ) × (j < k) × UnderWay program j a
-  unfolding after advance
+  unfolding after
   seen-stood zero a t = absurd (false≢true (sym (has-none a) ∙ t))
   seen-stood (suc k) a t =
       ⊎-elim (λ s. let (j, h, u) = seen-stood k a s in (j, omega (arith, h), u)) (λ s. (k, omega arith, standing-under-way k a s))
-      (one-of (has (after k .seen) a) (has (after k .standing) a) (sym (has-union (after k .seen) (after k .standing) a) ∙ t))
+      (one-of (has (after k .seen) a) (has (after k .standing) a) (sym (in-seen k a) ∙ t))
 
   pub stood-seen : (k j a : ℕ) → j < k → UnderWay program j a → has (after k .seen) a ≡ true
-  unfolding after advance
   stood-seen zero j a h u = absurd (not-suc-le-zero h)
   stood-seen (suc k) j a h u =
-      has-union (after k .seen) (after k .standing) a
+      in-seen k a
       ∙ ⊎-elim
       (λ e. ap (λ (b : Bool). has (after k .seen) a || b) (under-way-standing (subst (λ (i : ℕ). UnderWay program i a) e u)) ∙ or-right (has (after k .seen) a))
       (λ l. rw (stood-seen k j a l u)) (eq-or-lt-of-le (le-of-suc-le-suc h))
@@ -111,9 +126,11 @@ module _ (program : List ℕ) where
   latest k back = cond back (microcycles (suc k)) (after k .longest) .count
 
   pub longest-walk : (k : ℕ) → (after k .longest .count ≡ 0) ⊎ Walk program (after k .longest .count)
-  unfolding after advance next
+  unfolding after
   longest-walk zero = inl refl
-  longest-walk (suc k) = by-return (in-lowest (next k)) (back-walk k) (longest-walk k)
+  longest-walk (suc k) =
+      subst (λ (m : Microcycles). (m .count ≡ 0) ⊎ Walk program (m .count)) (sym (longest-next k))
+      (by-return (in-lowest (next k)) (back-walk k) (longest-walk k))
     where
       by-return : (b : Bool) → (b ≡ true → Walk program (suc k)) → (after k .longest .count ≡ 0) ⊎ Walk program (after k .longest .count)
           → (latest k b ≡ 0) ⊎ Walk program (latest k b)
@@ -121,9 +138,10 @@ module _ (program : List ℕ) where
       by-return false w rest = rest
 
   pub none-longer : (k n : ℕ) → n ≤ k → Walk program n → n ≤ after k .longest .count
-  unfolding after advance next
+  unfolding after
   none-longer zero n h w = h
-  none-longer (suc k) n h w = by-return (in-lowest (next k)) refl (λ l. none-longer k n l w)
+  none-longer (suc k) n h w =
+      subst (λ (m : Microcycles). n ≤ m .count) (sym (longest-next k)) (by-return (in-lowest (next k)) refl (λ l. none-longer k n l w))
     where
       by-return : (b : Bool) → in-lowest (next k) ≡ b → (n ≤ k → n ≤ after k .longest .count) → n ≤ latest k b
       by-return true e rest = h
@@ -131,15 +149,20 @@ module _ (program : List ℕ) where
           ⊎-elim (λ q. absurd (false≢true (sym e ∙ walk-back k (subst (Walk program) q w)))) (λ l. rest (le-of-suc-le-suc l)) (eq-or-lt-of-le h)
 
   -- ---- sets of 64 bits
+  next-lt : (k : ℕ) → next k < 2 ^ 64
+  unfolding next
+  next-lt k = spread-lt program 0 (after k .standing) 0 (omega arith)
+
   pub standing-lt : (k : ℕ) → after k .standing < 2 ^ 64
-  unfolding after advance
+  unfolding after
   standing-lt zero = omega arith
-  standing-lt (suc k) = let h = spread-lt program 0 (after k .standing) 0 (omega arith) in omega (arith, h)
+  standing-lt (suc k) = let same = standing-next k in let h = next-lt k in omega (arith, same, h)
 
   pub seen-lt : (k : ℕ) → after k .seen < 2 ^ 64
-  unfolding after advance
+  unfolding after
   seen-lt zero = omega arith
-  seen-lt (suc k) = union-lt (after k .seen) (after k .standing) (seen-lt k) (standing-lt k)
+  seen-lt (suc k) =
+      subst (λ (set : ℕ). set < 2 ^ 64) (sym (seen-more k)) (union-lt (after k .seen) (after k .standing) (seen-lt k) (standing-lt k))
 
   -- ---- the survey stops early where no walk is under way: nothing more would be found
   abbrev none-under-way : ℕ → ℕ → Microcycles → Survey

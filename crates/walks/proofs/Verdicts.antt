@@ -38,6 +38,7 @@ module _ (program : List ℕ) where
   abbrev lowest : ℕ
   lowest = lowest-leaving program (found .seen)
 
+  -- the survey goes on for as many microcycles as a walk may take
   survey-found : surveyed program ≡ found
   survey-found = surveyed-is program
 
