@@ -1,10 +1,11 @@
--- The scope's numbers for the ends of the engine's and the checker's calls, with what goes with each: for 5, 17 and 18 the word, for 7 the
--- place, all counted from 0. Number 2 is not among them: only the C calls are lent registers as a list. Assumes nothing.
+-- The scope's numbers for the ends of the calls, with what goes with each: for 5, 17 and 18 the word and for 7 the place, counted from 0;
+-- for 10 to 15 the line, counted from 1, with 0 for 9; for 16 the bytes needed. Number 2 is not among them:
+-- only the C calls are lent registers as a list. Assumes nothing.
 use Prim.Native.Nat.{ℕ}
 use mathlib.Core.Bool.{Bool}
 use lib.Dec.{eqb}
 use Rattle.answers.specs.declared.End.{End}
-use Rattle.answers.specs.declared.End.the-variants.{Done, MemoryLength, RegisterZero, ProgramLength, Microword, Outside, Request, NextAddress, WalkLeaves, WalkNotBack}
+use Rattle.answers.specs.declared.End.the-variants.{Done, MemoryLength, RegisterZero, ProgramLength, Microword, Outside, Request, NextAddress, TextLength, LineForm, LineSum, RecordType, Placement, EndRecord, RecordOrder, Room, WalkLeaves, WalkNotBack}
 use Rattle.answers.specs.declared.Numbered.{Numbered}
 
 abbrev pub numbered : ℕ → ℕ → Numbered
@@ -19,6 +20,14 @@ shown (Microword word) = numbered 5 word
 shown Outside = numbered 6 0
 shown (Request place) = numbered 7 place
 shown NextAddress = numbered 8 0
+shown TextLength = numbered 9 0
+shown (LineForm line) = numbered 10 line
+shown (LineSum line) = numbered 11 line
+shown (RecordType line) = numbered 12 line
+shown (Placement line) = numbered 13 line
+shown (EndRecord line) = numbered 14 line
+shown (RecordOrder line) = numbered 15 line
+shown (Room bytes) = numbered 16 bytes
 shown (WalkLeaves word) = numbered 17 word
 shown (WalkNotBack word) = numbered 18 word
 

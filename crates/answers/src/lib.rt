@@ -17,7 +17,8 @@ pub struct Steps {
     pub count: u64,
 }
 
-// How a call ended: done, or refused for the reason named, with the word or place that goes with it.
+// How a call ended: done, or refused for the reason named, with the word, place, line or bytes that
+// go with it.
 pub enum End {
     Done,
     MemoryLength,
@@ -27,6 +28,14 @@ pub enum End {
     Outside,
     Request(usize),
     NextAddress,
+    TextLength,
+    LineForm(usize),
+    LineSum(usize),
+    RecordType(usize),
+    Placement(usize),
+    EndRecord(usize),
+    RecordOrder(usize),
+    Room(usize),
     WalkLeaves(usize),
     WalkNotBack(usize),
 }
@@ -55,6 +64,35 @@ pub fn shown(end: End) -> Numbered
             at: place as u64,
         },
         End::NextAddress => Numbered { number: 8, at: 0 },
+        End::TextLength => Numbered { number: 9, at: 0 },
+        End::LineForm(line) => Numbered {
+            number: 10,
+            at: line as u64,
+        },
+        End::LineSum(line) => Numbered {
+            number: 11,
+            at: line as u64,
+        },
+        End::RecordType(line) => Numbered {
+            number: 12,
+            at: line as u64,
+        },
+        End::Placement(line) => Numbered {
+            number: 13,
+            at: line as u64,
+        },
+        End::EndRecord(line) => Numbered {
+            number: 14,
+            at: line as u64,
+        },
+        End::RecordOrder(line) => Numbered {
+            number: 15,
+            at: line as u64,
+        },
+        End::Room(bytes) => Numbered {
+            number: 16,
+            at: bytes as u64,
+        },
         End::WalkLeaves(word) => Numbered {
             number: 17,
             at: word as u64,

@@ -1,0 +1,64 @@
+-- The writer's data record of four words reads as those words at their place, behind the record before it; its end record ends the text.
+use Prim.Native.Nat.{ℕ, suc, _+_, _*_, _/_, _%_, _^_, _<_, _≤_}
+use native.Mathlib.Omega.{arith}
+use mathlib.Core.Path.{_≡_, refl, ap, _∙_}
+use mathlib.Core.Bool.{true, _&&_}
+use mathlib.Core.List.{List, [], _∷_, _++_}
+use lib.Seq.{sets}
+use Rattle.images.specs.declared.Line.{Line}
+use Rattle.images.specs.declared.Line.the-variants.{Record}
+use Rattle.images.specs.declared.Reading.the-variants.{Open, Ended}
+use Rattle.placing.proofs.PlacingCases.{at-its-place}
+use Rattle.images.specs.Digits.{all-bytes, word-bytes, words-of}
+use Rattle.images.specs.Records.{record-of, data-of}
+use Rattle.images.specs.Reading.{tested, with-line, line-stored}
+use Rattle.images.specs.Writing.{data-line, data-bytes, end-line}
+use Rattle.images.proofs.WrittenDigits.{all-bytes-joined, word-bytes-are, word-read}
+use Rattle.images.proofs.WrittenLines.{record-written}
+
+-- ---- the end record
+
+pub end-read : record-of end-line ≡ Record 0 0 1 0
+end-read = record-written 0 0 0 1 [] refl (omega arith) (omega arith) (omega arith) (omega arith) refl
+
+pub text-ended : (m number end : ℕ) → tested m number end (record-of end-line) ≡ Ended
+unfolding tested
+text-ended m number end = rw end-read
+
+pub nothing-stored : (memory : List ℕ) → with-line memory end-line ≡ memory
+nothing-stored memory = ap (line-stored memory end-line) end-read
+
+-- ---- a data record
+
+module _ (i w x y z : ℕ) (hi : i < 4096) (hw : w < 2 ^ 32) (hx : x < 2 ^ 32) (hy : y < 2 ^ 32) (hz : z < 2 ^ 32) where
+  all-are : all-bytes (word-bytes w ++ (word-bytes x ++ (word-bytes y ++ word-bytes z))) ≡ true
+  all-are =
+      all-bytes-joined (word-bytes w) (word-bytes x ++ (word-bytes y ++ word-bytes z)) (word-bytes-are w hw)
+      (all-bytes-joined (word-bytes x) (word-bytes y ++ word-bytes z) (word-bytes-are x hx)
+      (all-bytes-joined (word-bytes y) (word-bytes z) (word-bytes-are y hy) (word-bytes-are z hz)))
+
+  pub data-read : record-of (data-line (16 * i) w x y z) ≡ Record 16 (16 * i) 0 0
+  data-read =
+      record-written 16 (16 * i / 256) (16 * i % 256) 0 (word-bytes w ++ (word-bytes x ++ (word-bytes y ++ word-bytes z))) refl
+      (omega arith) (omega arith) (omega arith) (omega arith) all-are
+      ∙ ap (λ (a : ℕ). Record 16 a 0 0) address
+    where
+      address : 256 * (16 * i / 256) + 16 * i % 256 ≡ 16 * i
+      address = omega arith
+
+  pub words-read : words-of 4 (data-of (data-line (16 * i) w x y z)) ≡ w ∷ x ∷ y ∷ z ∷ []
+  words-read = λ j. word-read w hw j ∷ word-read x hx j ∷ word-read y hy j ∷ word-read z hz j ∷ []
+
+  pub words-placed : (m number : ℕ) → 4 * suc i ≤ m → tested m number (16 * i) (record-of (data-line (16 * i) w x y z)) ≡ Open (16 * suc i)
+  unfolding tested
+  words-placed m number h =
+      rw (data-read, at-its-place m (16 * i) (16 * i) 16 (omega arith) refl (omega arith) (omega arith)) (ap Open (omega arith))
+
+  pub words-stored : (memory : List ℕ) → with-line memory (data-line (16 * i) w x y z) ≡ sets memory (4 * i) (w ∷ x ∷ y ∷ z ∷ [])
+  words-stored memory =
+      ap (line-stored memory (data-line (16 * i) w x y z)) data-read
+      ∙ ap (sets memory (16 * i / 4)) words-read
+      ∙ ap (λ (a : ℕ). sets memory a (w ∷ x ∷ y ∷ z ∷ [])) place
+    where
+      place : 16 * i / 4 ≡ 4 * i
+      place = omega arith

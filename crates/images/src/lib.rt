@@ -1,0 +1,35 @@
+// Intel HEX images: what a line says, how the reading of a text stands, and what the writer answers.
+// The definitions of specs/ speak of these.
+use answers::End;
+
+// What a line says: a record, or nothing of record form. The sum is that of all its bytes modulo
+// 256, the checksum included.
+pub enum Line {
+    NoRecord,
+    Record {
+        count: u16,
+        address: u32,
+        kind: u16,
+        sum: u8,
+    },
+}
+
+// How the reading stands after some lines: more may come, and the last data ended at the address
+// given; or the end record was read; or the text is refused.
+pub enum Reading {
+    Open(usize),
+    Ended,
+    Refused(End),
+}
+
+// Bytes summed up modulo 256, or one of them was no byte.
+pub enum Total {
+    Sum(u8),
+    NoByte,
+}
+
+// The writer's answer: the bytes written, 0 where it is refused.
+pub struct Written {
+    pub end: End,
+    pub bytes: usize,
+}

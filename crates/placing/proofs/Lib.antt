@@ -1,0 +1,4 @@
+-- Theorems over the definitions of specs/, a file each.
+pub mod EdgePlaces
+pub mod PlacingCases
+pub mod WordsNotNamed
