@@ -1,0 +1,6 @@
+-- Laws over the definitions, a file each.
+pub mod DigitPairs
+pub mod LineEnds
+pub mod Totals
+pub mod FoundRecords
+pub mod FirstLine

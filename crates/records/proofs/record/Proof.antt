@@ -1,0 +1,55 @@
+-- Each way out is a law of FoundRecords, given what the calls before it found.
+use borrow.Author.Needs.{needs}
+use mathlib.Core.Path.{sym}
+use Rattle.records.proofs.FoundRecords.{empty-line, colon-missing, byte-missing, end-missing, whole-record}
+use Rattle.records.proofs.record.Statement.{statement}
+use Rattle.records.proofs.record.Tie as tie
+
+returns : tie.Need-returns
+returns c = sym (empty-line (c .before .before .args .line .now) (c .if1 .taken))
+
+returns-2 : tie.Need-returns-2
+returns-2 c = sym (colon-missing (c .before .before .before .before .args .line .now) (c .if2 .taken))
+
+returns-3 : tie.Need-returns-3
+returns-3 c =
+    let behind = c .before in let summed = behind .before .before in let all = summed .before .before in
+    let count = all .before in let starts = count .before in
+    sym
+    (end-missing (starts .before .before .before .before .args .line .now) (starts .if2 .left) (count .byte .ensures)
+    (all .total .ensures) (summed .sum .given .1) (behind .ended .ensures) (c .if3 .taken))
+
+returns-4 : tie.Need-returns-4
+returns-4 c =
+    let all = c .before .before in let count = all .before in let starts = count .before in
+    sym
+    (byte-missing (starts .before .before .before .before .args .line .now) (starts .if2 .left) (count .byte .ensures)
+    (all .total .ensures) (c .enum-told .given .1))
+
+returns-5 : tie.Need-returns-5
+returns-5 c =
+    let behind = c .before .before in let summed = behind .before .before in let all = summed .before .before in
+    let count = all .before in let starts = count .before in
+    sym
+    (whole-record (starts .before .before .before .before .args .line .now) (starts .if2 .left) (count .byte .ensures)
+    (all .total .ensures) (summed .sum .given .1) (behind .ended .ensures) (c .before .if3 .left) (c .fields .ensures))
+
+pub record-spec : {M : Type 1} → statement M
+record-spec =
+    tie.close
+    (tie.spec
+    returns
+    (λ c. search needs)
+    returns-2
+    (λ c κs. search needs)
+    (λ c κs. search needs)
+    (λ c. search needs)
+    (λ c. search needs)
+    (λ c. search needs)
+    (λ c. search needs)
+    (λ c. search needs)
+    (λ c κs. search needs)
+    returns-3
+    (λ c κs. search needs)
+    returns-4
+    returns-5)
