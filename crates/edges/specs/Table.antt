@@ -1,6 +1,6 @@
 -- The scope's examples at the edges that are marked as proved, a row each: what the definitions show, and what the scope says.
--- Everything is shown in numbers, a flag or a decision as 0 or 1. Examples of images join below the last row.
-use Prim.Native.Nat.{ℕ}
+-- Everything is shown in numbers, a flag or a decision as 0 or 1.
+use Prim.Native.Nat.{ℕ, _%_}
 use mathlib.Core.Bool.{Bool, true, false}
 use mathlib.Core.List.{List, [], _∷_}
 use lib.ListN.{set}
@@ -12,6 +12,9 @@ use Rattle.status.specs.declared.psw.PswLines.{PswLines}
 use Rattle.status.specs.Psw.{mk-psw, next-psw}
 use Rattle.status.specs.Jump.{jump-cond}
 use Rattle.words.specs.Registers.{update-reg}
+use Rattle.images.specs.Ascii.{ascii}
+use Rattle.images.specs.Digits.{sum-of}
+use Rattle.images.specs.Records.{is-record, record-bytes}
 
 pub record Row : Type 0 where
   pub shown : List ℕ
@@ -58,6 +61,10 @@ alu output value v n c z =
       said = value ∷ num v ∷ num n ∷ num c ∷ num z ∷ [];
     }
 
+-- a line that is a record, and its sum modulo 256
+abbrev pub record-sum : List ℕ → ℕ → Row
+record-sum line sum = record { shown = num (is-record line) ∷ sum-of (record-bytes line) % 256 ∷ []; said = num true ∷ sum ∷ [] }
+
 abbrev pub rows : List Row
 rows =
     -- code 0 with c jumps
@@ -90,4 +97,6 @@ rows =
     ∷ alu (add-without-carry 0x7fff_ffff 1) 0x8000_0000 true true false false
     -- 0 - 1 = FFFFFFFF, n set, c v z clear
     ∷ alu (sub-without-carry 0 1) 0xffff_ffff false true false false
+    -- record :0400000000000010EC sums to 0 modulo 256
+    ∷ record-sum (ascii ":0400000000000010EC") 0
     ∷ []

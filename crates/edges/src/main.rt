@@ -3,6 +3,7 @@
 // decision is shown as 0 or 1; an ALU output as its value in hexadecimal and then v, n, c, z.
 use alu::AluOutput;
 use alu::Flags;
+use images::Line;
 use libc::STDOUT_FILENO;
 use status::psw::Change;
 use status::psw::Psw;
@@ -13,6 +14,7 @@ fn main() {
     writes();
     word_in_user_mode();
     sums();
+    record_sum(b"record :0400000000000010EC:", b":0400000000000010EC");
     lengths();
 }
 
@@ -121,6 +123,21 @@ fn sums() {
     sum(b"ffffffff + 1:", alu::compute(0, 0xffff_ffff, 1, false));
     sum(b"7fffffff + 1:", alu::compute(0, 0x7fff_ffff, 1, false));
     sum(b"0 - 1:", alu::compute(3, 0, 1, false));
+}
+
+// The sum of a record modulo 256.
+fn record_sum(text: &[u8], line: &[u8]) {
+    label(text);
+    match records::record(line) {
+        Line::NoRecord => label(b" no record"),
+        Line::Record {
+            count: _,
+            address: _,
+            kind: _,
+            sum,
+        } => decimal(sum as u32),
+    }
+    end_line();
 }
 
 fn length(text: &[u8], words: usize) {

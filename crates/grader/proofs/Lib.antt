@@ -3,3 +3,4 @@ pub mod ElementwiseCopy
 pub mod CallCases
 pub mod AsLent
 pub mod OneCheckFits
+pub mod ImageCalls

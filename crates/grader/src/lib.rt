@@ -5,8 +5,11 @@ ghost use lib.ListN.{length};
 ghost use Prim.Native.Nat.{_%_};
 ghost use Rattle.phases.specs.Phases.{word-at};
 ghost use Rattle.published.specs.Listing.{published};
+ghost use Rattle.images.specs.Reading.{memory-after};
+ghost use Rattle.images.specs.Writing.{room-after};
 ghost use Rattle.grader.specs.Answers.{refused, answered};
 ghost use Rattle.grader.specs.Checks.{CheckAnswer};
+ghost use Rattle.grader.specs.Images.{avm-read, avm-write};
 ghost use Rattle.grader.specs.Calls.{micro-state, state-words, found, avm-run, macro-state, macro-words, avm-steps};
 ghost use Rattle.grader.specs.Calls.{phase-state, phase-words, latch-words, phase-found, avm-phase};
 use answers::End;
@@ -280,4 +283,38 @@ pub extern "C" fn avm_phase(
     *mir = after.mir;
     *phase = after.phase;
     answer_of(end, microcycles, steps)
+}
+
+// Reads an image into memory.
+#[no_mangle]
+pub extern "C" fn avm_read(memory: &mut [u32], text: &[u8]) -> Answer
+    ensures { λ r. ⌜ (r ≡ avm-read (now (memory .entry)) (now (text .entry)))
+        × (now (memory .exit) ≡ memory-after (now (memory .entry)) (now (text .entry))) ⌝ }
+{
+    let end = image_reader::read(memory, text);
+    let microcycles = Microcycles { count: 0 };
+    let steps = Steps { count: 0 };
+    answer_of(end, microcycles, steps)
+}
+
+// Writes memory's image into the room.
+#[no_mangle]
+pub extern "C" fn avm_write(memory: &[u32], room: &mut [u8]) -> Answer
+    ensures { λ r. ⌜ (r ≡ avm-write (now (memory .entry)) (now (room .entry)))
+        × (now (room .exit) ≡ room-after (now (memory .entry)) (now (room .entry))) ⌝ }
+{
+    let written = image_writer::write(memory, room);
+    let end = written.end;
+    let bytes = written.bytes;
+    let microcycles = Microcycles { count: 0 };
+    let steps = Steps { count: 0 };
+    if !answers::done(end) {
+        return answer_of(end, microcycles, steps);
+    }
+    Answer {
+        number: 0,
+        at: bytes as u64,
+        microcycles: microcycles,
+        steps: steps,
+    }
 }

@@ -1,0 +1,2 @@
+-- What the image program makes of its input.
+pub mod Image
