@@ -1,12 +1,10 @@
 /* Checks a second of avm_check and of a plain C checker, on the same microprograms in the same process; see bench/README.md. */
-#define _POSIX_C_SOURCE 200809L
-
 #include <stdbool.h>
 #include <stdio.h>
 #include <stdlib.h>
-#include <time.h>
 
 #include "plain_check.h"
+#include "timing.h"
 
 enum { STEP, JMP, JOP, JINT, JSM };
 enum { REPETITIONS = 21, CHECKS_A_SECOND = 20000 }; /* the second: what avm_check has to do on one core */
@@ -82,25 +80,17 @@ static void fail(const struct row *row, const char *what)
     exit(1);
 }
 
-static double now(void)
-{
-    struct timespec time;
-
-    clock_gettime(CLOCK_PROCESS_CPUTIME_ID, &time);
-    return (double)time.tv_sec + (double)time.tv_nsec / 1e9;
-}
-
 /* Seconds for that many checks. Each answer is compared, so that none is left out. */
 static double seconds(checker *check, const struct row *row, const uint64_t *program, unsigned long checks)
 {
-    double start = now();
+    double start = processor_seconds();
     unsigned long k, wrong = 0;
 
     for (k = 0; k < checks; k++)
         wrong += !same(check(program, 64), row->answer);
     if (wrong > 0)
         fail(row, "an answer changed while it was measured");
-    return now() - start;
+    return processor_seconds() - start;
 }
 
 /* As many as the faster one needs for a repetition that is long enough. */
@@ -112,19 +102,6 @@ static unsigned long enough_checks(const struct row *row, const uint64_t *progra
            seconds(avm_check, row, program, checks) < shortest_repetition)
         checks *= 2;
     return checks;
-}
-
-static int compare_doubles(const void *a, const void *b)
-{
-    double x = *(const double *)a, y = *(const double *)b;
-
-    return (x > y) - (x < y);
-}
-
-static double median(double *numbers)
-{
-    qsort(numbers, REPETITIONS, sizeof numbers[0], compare_doubles);
-    return numbers[REPETITIONS / 2];
 }
 
 /* Proved and plain in turn, so that what disturbs the machine for a while disturbs both. */
@@ -139,9 +116,9 @@ static void measure(const struct row *row, const uint64_t *program)
         plain[k] = seconds(plain_check, row, program, checks);
         ratio[k] = proved[k] / plain[k];
     }
-    middle = median(ratio);
-    rate = (double)checks / median(proved);
-    printf("%-34s %12.0f %12.0f %7.2f  (%.2f to %.2f)\n", row->name, rate, (double)checks / median(plain), middle, ratio[0],
+    middle = median(ratio, REPETITIONS);
+    rate = (double)checks / median(proved, REPETITIONS);
+    printf("%-34s %12.0f %12.0f %7.2f  (%.2f to %.2f)\n", row->name, rate, (double)checks / median(plain, REPETITIONS), middle, ratio[0],
            ratio[REPETITIONS - 1]);
     if (rate < CHECKS_A_SECOND)
         fail(row, "the proved checker is too slow");

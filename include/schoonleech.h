@@ -3,8 +3,8 @@
    AVM-1 is the microprogrammed processor of chapter 5 of P. J. Windley's dissertation (1990). docs/AVM1.md has its tables and docs/DECISIONS.md
    what those leave open.
 
-   A caller lends places: a microprogram, memory, registers, a block of state words. A call reads them, changes some of them where they stand
-   and returns an avm_answer. It keeps nothing for the next call. avm_published alone is lent nothing and returns a microword.
+   A caller lends places: a microprogram, memory, registers, a block of state words, text. A call reads them, changes some of them where
+   they stand and returns an avm_answer. It keeps nothing for the next call. avm_published alone is lent nothing and returns a microword.
 
    - A slice is a pointer and a number of elements. A slice of length 0 may come with NULL.
    - A block with a fixed size (state, latches, mir, phase) has no length. It may not be NULL.
@@ -27,11 +27,16 @@ extern "C" {
 #define AVM_WORDS_MOST 16384   /* .. and at most this                                             */
 #define AVM_PROGRAM_MOST 64    /* microwords of a microprogram: at least 1 and at most this       */
 #define AVM_FETCH 0            /* the fetch address: MPC is here between two instructions         */
+#define AVM_TEXT_MOST 262144   /* bytes of an image's text that is read: at most this             */
+
+/* Bytes of the text that avm_write makes of a memory of m words. A constant where m is one, so it can be the length of an array. */
+#define AVM_WRITTEN(m) ((size_t)11 * (size_t)(m) + (size_t)12)
 
 /* Numbers of an answer. Numbers 1 to 7 are tested before anything is done, the lowest first, and the first that applies is the answer:
    all lent places are then as lent. After 8 the completed microcycles of a run stay; see each call. avm_steps has no microprogram and no
    phase, so it never answers 4, 5, 6 or 8. avm_check is lent a microprogram alone and runs nothing: it tests 4, 5, 17 and 18, in that
-   order, and no other call answers 17 or 18. */
+   order, and no other call answers 17 or 18. Numbers 9 to 16 are about images, and after each of them all lent places are as lent:
+   avm_read tests 1, then 9, then 10 to 15 line after line; avm_write tests 1 and then 16. */
 enum {
     AVM_DONE = 0,                 /* nothing was refused                                                                    */
     AVM_BAD_MEMORY_LENGTH = 1,    /* m is not a power of two from AVM_WORDS_FEWEST to AVM_WORDS_MOST                        */
@@ -42,6 +47,14 @@ enum {
     AVM_OUTSIDE = 6,              /* MPC is not below words, or the phase number is above 3                                 */
     AVM_BAD_REQUEST = 7,          /* a request byte is above 3, or for avm_steps above 1; at: the first such place          */
     AVM_LEFT_PROGRAM = 8,         /* a microcycle would give a next address that is not below words                         */
+    AVM_TEXT_TOO_LONG = 9,        /* an image's text has more than AVM_TEXT_MOST bytes                                      */
+    AVM_NOT_A_RECORD = 10,        /* a line is not of record form, or blank; at: the line                                   */
+    AVM_BAD_SUM = 11,             /* the bytes of a record do not sum to 0 modulo 256; at: the line                         */
+    AVM_BAD_TYPE = 12,            /* a record's type is neither 00 nor 01; at: the line                                     */
+    AVM_BAD_EXTENT = 13,          /* a record's count, its address or where it ends is wrong; at: the line                  */
+    AVM_BAD_END = 14,             /* no end record; at: how many lines there are. Or something after it; at: that line      */
+    AVM_BAD_ORDER = 15,           /* a data record starts before the end of the one before it; at: the line                 */
+    AVM_NO_ROOM = 16,             /* the text to write does not fit; at: the bytes that it needs                            */
     AVM_WALK_LEAVES = 17,         /* a walk can leave the microprogram; at: the lowest word of a walk from which it can     */
     AVM_WALK_NOT_BACK = 18        /* a walk is not back after 64 microcycles; at: the lowest word on which one then stands  */
 };
@@ -50,10 +63,11 @@ enum {
 typedef struct { uint64_t count; } avm_microcycles;      /* a count on the microcycle clock, four phases each                   */
 typedef struct { uint64_t count; } avm_instructions;     /* a count on the instruction clock, an instruction or interrupt each  */
 
-/* What a call returns. A field that the call does not name for this number is 0. Words and places are counted from 0. */
+/* What a call returns. A field that the call does not name for this number is 0. Words and places are counted from 0, lines from 1. */
 typedef struct {
     uint64_t number;               /* AVM_DONE, or why the call was refused                                                 */
-    uint64_t at;                   /* with 5, 17 and 18 the word, with 7 the place in the request bytes                     */
+    uint64_t at;                   /* with 5, 17 and 18 the word, with 7 the place in the request bytes, with 10 to 15 the
+                                      line of the text, with 16 the bytes needed; of avm_write with 0: the bytes written    */
     avm_microcycles microcycles;   /* of avm_run with 0 and 8: the microcycles that it completed;
                                       of avm_check with 0: the length of the longest walk                                   */
     avm_instructions steps;        /* of avm_run with 0 and 8: returns to fetch, those of them after which MPC is AVM_FETCH;
@@ -175,6 +189,48 @@ avm_answer avm_steps(uint32_t *memory, size_t m, uint32_t *registers, size_t cou
    than the longest walk, and a program may be refused for a walk that no run would take.
    The program is as lent after every number. steps is 0, and where the program is refused microcycles is 0 too. */
 avm_answer avm_check(const uint64_t *program, size_t words);
+
+/* Reads an image, that is Intel HEX text, into memory.
+
+   memory, m         memory, in words of 32 bits: word w is the image's bytes 4w to 4w + 3, the most significant first
+   text, bytes       the text, a character a byte and no closing zero; only read
+
+   The text is lines, each of them a record: a colon, and then bytes, each as two hex digits in either case.
+
+       :CCAAAATT..SS   CC count, AAAA address, TT type, .. as many bytes of data as CC says, SS checksum
+
+   A line has exactly CC + 5 bytes and nothing else, no blank either. It ends with LF or CR LF. The last line may end where the text does;
+   a CR without LF ends no line. The sum of a record's bytes, SS too, is 0 modulo 256.
+
+   Type 00   data, for the image's bytes from AAAA on. AAAA and CC are multiples of 4, and AAAA + CC, the record's end, is at most 4 * m.
+             A record starts at or after the end of the one before it. CC may be 0: such a record stores nothing, but is tested like the
+             others, and the next one may not start before its address.
+   Type 01   end. CC and AAAA are 0. It comes once, as the last line.
+
+   First m is tested (1), then bytes (9). Then come the lines in their order, each tested for 10, 11, 12, 13 and 15 in that order;
+   the end record is not tested for 15, and a line after it is 14 without any test.
+
+   Number 0: all of the text was taken. The words that the records name are stored; the others keep their value.
+   Numbers 1 and 9 to 15: refused. Memory is as lent: the lines before the refused one have stored nothing. at is 0 for 1 and 9. For 10
+   to 13 and 15 it is the line that was refused. For 14 it is the number of lines where no end record came, 0 for an empty text; where
+   something follows the end record it is the line that starts there, a blank one and one without a line end too.
+   The counts are 0 in every case. */
+avm_answer avm_read(uint32_t *memory, size_t m, const uint8_t *text, size_t bytes);
+
+/* Writes an image: all of memory as Intel HEX text.
+
+   memory, m         memory, in words of 32 bits as for avm_read; only read
+   room, bytes       where the text goes; AVM_WRITTEN(m) bytes are enough
+
+   The text has 4 words a line in ascending order, then the end record :00000001FF, in upper case, each line ended by LF. There is no
+   closing zero. avm_read takes it: read into a memory of m words, whatever that holds, it gives the same memory.
+
+   Number 0: at is the number of bytes written, that is AVM_WRITTEN(m). What room has beyond them is as lent.
+   Number 1: refused, room as lent.
+   Number 16: refused, since bytes is below AVM_WRITTEN(m). Room is as lent, and at is the number of bytes that the text needs: with no
+   room at all, NULL and 0, the call only tells this.
+   The counts are 0 in every case. */
+avm_answer avm_write(const uint32_t *memory, size_t m, uint8_t *room, size_t bytes);
 
 /* The published microprogram: the microword at an address, which is taken modulo AVM_PROGRAM_MOST. It is lent nothing and refuses nothing.
 

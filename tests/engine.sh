@@ -1,40 +1,14 @@
 # The engine's C calls (include/schoonleech.h): answers worked out by hand, and seeded random comparisons with the second simulator
 # (tests/simulator), with every lent place between guard pages.
 #
-# SCHOONLEECH_LIB     an archive to test instead of the proved one; rt is then not run
+# SCHOONLEECH_LIB     an archive to test instead of the proved one
 # SCHOONLEECH_ROUNDS  how many times the usual number of random cases
-passed=0 failed=0
-work=$(mktemp -d)
-trap 'rm -rf "$work"' EXIT
-
-one() { # NAME COMMAND..
-    local name=$1
-    shift
-    if "$@" >"$work/log" 2>&1; then
-        passed=$((passed + 1))
-        echo "passed  $name"
-    else
-        failed=$((failed + 1))
-        echo "FAILED  $name"
-        cat "$work/log"
-    fi
-}
-
-finish() {
-    echo "$passed passed, $failed failed"
-    [ "$failed" -eq 0 ]
-    exit
-}
-
+. tests/host/counting.bash
 . tests/host/x86_64.bash
+. tests/host/library.bash
 
-library=${SCHOONLEECH_LIB:-}
-if [ -z "$library" ]; then
-    command -v rt >/dev/null || { echo "engine: the Rattle kit's rt is not on the PATH"; exit 77; }
-    library=target/staticlib/libgrader.a
-    one "the library is proved" rt staticlib grader
-    [ "$failed" -eq 0 ] || finish
-fi
+[ -n "${SCHOONLEECH_LIB:-}" ] || one "the library is proved" prove_library
+[ "$failed" -eq 0 ] || finish
 
 strict="-O2 -Wall -Wextra -Werror"
 use=tests/engine/header_use.c

@@ -64,5 +64,6 @@ void check_instruction(struct inputs *before, struct inputs *after);
 extern const struct test word_tests[], program_tests[], phase_tests[], refusal_tests[], random_tests[];
 extern const struct test instruction_tests[], flow_tests[], step_refusal_tests[], published_tests[], random_step_tests[];
 extern const struct test walk_tests[], walk_refusal_tests[], stack_tests[], random_walk_tests[];
+extern const struct test read_tests[], read_refusal_tests[], write_tests[], random_image_tests[];
 
 #endif

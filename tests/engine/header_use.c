@@ -4,14 +4,16 @@
 
 static int limits_fit(void)
 {
-    return AVM_REGISTERS == 32 && AVM_WORDS_FEWEST == 16 && AVM_WORDS_MOST == 16384 && AVM_PROGRAM_MOST == 64 && AVM_FETCH == 0;
+    return AVM_REGISTERS == 32 && AVM_WORDS_FEWEST == 16 && AVM_WORDS_MOST == 16384 && AVM_PROGRAM_MOST == 64 && AVM_FETCH == 0 &&
+           AVM_TEXT_MOST == 262144 && AVM_WRITTEN(16) == 188 && AVM_WRITTEN(8 + 8) == 188 && AVM_WRITTEN(AVM_WORDS_MOST) * 2 == 360472;
 }
 
 static int numbers_fit(void)
 {
     return AVM_DONE == 0 && AVM_BAD_MEMORY_LENGTH == 1 && AVM_BAD_REGISTER_COUNT == 2 && AVM_REGISTER_0_NOT_ZERO == 3 &&
            AVM_BAD_PROGRAM_LENGTH == 4 && AVM_BAD_MICROWORD == 5 && AVM_OUTSIDE == 6 && AVM_BAD_REQUEST == 7 && AVM_LEFT_PROGRAM == 8 &&
-           AVM_WALK_LEAVES == 17 && AVM_WALK_NOT_BACK == 18;
+           AVM_TEXT_TOO_LONG == 9 && AVM_NOT_A_RECORD == 10 && AVM_BAD_SUM == 11 && AVM_BAD_TYPE == 12 && AVM_BAD_EXTENT == 13 &&
+           AVM_BAD_END == 14 && AVM_BAD_ORDER == 15 && AVM_NO_ROOM == 16 && AVM_WALK_LEAVES == 17 && AVM_WALK_NOT_BACK == 18;
 }
 
 static int places_fit(void)
@@ -88,7 +90,29 @@ static int check_fits(void)
     return answer.number == AVM_BAD_PROGRAM_LENGTH;
 }
 
+/* What is written of one memory is read into another. A count of 0 before 16 bytes is refused; with no room the bytes needed are told. */
+static int image_fits(void)
+{
+    uint32_t memory[AVM_WORDS_FEWEST] = {0x10, 0x12345678}, other[AVM_WORDS_FEWEST] = {0};
+    uint8_t text[AVM_WRITTEN(AVM_WORDS_FEWEST)];
+    avm_answer answer = avm_write(memory, AVM_WORDS_FEWEST, text, sizeof text);
+
+    if (answer.number != AVM_DONE || answer.at != sizeof text)
+        return 0;
+    answer = avm_read(other, AVM_WORDS_FEWEST, text, sizeof text);
+    if (answer.number != AVM_DONE || answer.at != 0 || other[0] != 0x10 || other[1] != 0x12345678)
+        return 0;
+    text[1] = '0';
+    answer = avm_read(other, AVM_WORDS_FEWEST, text, sizeof text);
+    if (answer.number != AVM_NOT_A_RECORD || answer.at != 1)
+        return 0;
+    answer = avm_write(memory, AVM_WORDS_FEWEST, NULL, 0);
+    return answer.number == AVM_NO_ROOM && answer.at == sizeof text && avm_read(other, AVM_WORDS_FEWEST, NULL, 0).number == AVM_BAD_END;
+}
+
 int main(void)
 {
-    return limits_fit() && numbers_fit() && places_fit() && calls_fit() && steps_fit() && published_fits() && check_fits() ? 0 : 1;
+    int names_fit = limits_fit() && numbers_fit() && places_fit();
+
+    return names_fit && calls_fit() && steps_fit() && published_fits() && check_fits() && image_fits() ? 0 : 1;
 }

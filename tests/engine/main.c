@@ -14,8 +14,12 @@ int main(void)
     run_tests(walk_tests);
     run_tests(walk_refusal_tests);
     run_tests(stack_tests);
+    run_tests(read_tests);
+    run_tests(read_refusal_tests);
+    run_tests(write_tests);
     run_tests(random_tests);
     run_tests(random_step_tests);
     run_tests(random_walk_tests);
+    run_tests(random_image_tests);
     return report();
 }

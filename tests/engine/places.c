@@ -1,18 +1,12 @@
-#define _DEFAULT_SOURCE
-
 #include "places.h"
 
-#include <stdio.h>
-#include <stdlib.h>
 #include <string.h>
-#include <sys/mman.h>
-#include <unistd.h>
 
 #include "../simulator/simulator.h"
 #include "check.h"
 
-const struct implementation engine = {"engine", avm_run, avm_phase, avm_steps, avm_check};
-const struct implementation simulator = {"second simulator", sim_run, sim_phase, sim_steps, sim_check};
+const struct implementation engine = {"engine", avm_run, avm_phase, avm_steps, avm_check, avm_read, avm_write};
+const struct implementation simulator = {"second simulator", sim_run, sim_phase, sim_steps, sim_check, sim_read, sim_write};
 
 avm_answer call_run(const struct implementation *implementation, const struct places *p)
 {
@@ -43,65 +37,18 @@ struct places places_in(struct inputs *inputs)
     return places;
 }
 
-/* Pages between two guard pages, and where in them a place was lent last. */
-struct area {
-    const char *name;
-    size_t room;
-    bool only_read;
-    unsigned char *pages, *place;
-    size_t length;
-};
-
 enum { PROGRAM, MEMORY, REGISTERS, STATE, LATCHES, MIR, PHASE, REQUESTS, AREAS };
 
 static struct area areas[AREAS] = {
-    {"program", PROGRAM_ROOM * sizeof(uint64_t), true, NULL, NULL, 0},
-    {"memory", MEMORY_ROOM * sizeof(uint32_t), false, NULL, NULL, 0},
-    {"registers", REGISTERS_ROOM * sizeof(uint32_t), false, NULL, NULL, 0},
-    {"state", AVM_STATE * sizeof(uint32_t), false, NULL, NULL, 0},
-    {"latches", AVM_LATCHES * sizeof(uint32_t), false, NULL, NULL, 0},
-    {"mir", sizeof(uint64_t), false, NULL, NULL, 0},
-    {"phase", sizeof(uint32_t), false, NULL, NULL, 0},
-    {"requests", REQUESTS_ROOM, true, NULL, NULL, 0},
+    AREA("program", PROGRAM_ROOM * sizeof(uint64_t), true),
+    AREA("memory", MEMORY_ROOM * sizeof(uint32_t), false),
+    AREA("registers", REGISTERS_ROOM * sizeof(uint32_t), false),
+    AREA("state", AVM_STATE * sizeof(uint32_t), false),
+    AREA("latches", AVM_LATCHES * sizeof(uint32_t), false),
+    AREA("mir", sizeof(uint64_t), false),
+    AREA("phase", sizeof(uint32_t), false),
+    AREA("requests", REQUESTS_ROOM, true),
 };
-
-static const unsigned char pattern = 0xA5;
-
-static void protect(void *pages, size_t length, int protection)
-{
-    if (mprotect(pages, length, protection) != 0) {
-        perror("mprotect");
-        exit(2);
-    }
-}
-
-static void map(struct area *area)
-{
-    size_t page = (size_t)sysconf(_SC_PAGESIZE);
-    unsigned char *all;
-
-    area->room = (area->room + page - 1) / page * page;
-    all = mmap(NULL, area->room + 2 * page, PROT_NONE, MAP_PRIVATE | MAP_ANONYMOUS, -1, 0);
-    if (all == MAP_FAILED) {
-        perror("mmap");
-        exit(2);
-    }
-    area->pages = all + page;
-}
-
-static void *lend_area(struct area *area, const void *bytes, size_t length, enum side side)
-{
-    if (area->pages == NULL)
-        map(area);
-    protect(area->pages, area->room, PROT_READ | PROT_WRITE);
-    memset(area->pages, pattern, area->room);
-    area->place = side == AT_START ? area->pages : area->pages + area->room - length;
-    area->length = length;
-    memcpy(area->place, bytes, length);
-    if (area->only_read)
-        protect(area->pages, area->room, PROT_READ);
-    return length == 0 && side == AT_START ? NULL : area->place;
-}
 
 struct places lend_program(const struct inputs *in, enum side side)
 {
@@ -128,23 +75,12 @@ struct places lend(const struct inputs *in, enum side side)
     return places;
 }
 
-/* All bytes are the pattern: the first is, and each equals the one before it. */
-static bool untouched(const unsigned char *from, size_t length)
-{
-    return length == 0 || (from[0] == pattern && memcmp(from, from + 1, length - 1) == 0);
-}
-
 void expect_nothing_beyond(const char *who)
 {
     const struct area *area;
 
-    for (area = areas; area < areas + AREAS; area++) {
-        size_t before = (size_t)(area->place - area->pages);
-        size_t after = area->room - before - area->length;
-
-        expect(untouched(area->pages, before), "%s wrote below the lent %s", who, area->name);
-        expect(untouched(area->place + area->length, after), "%s wrote above the lent %s", who, area->name);
-    }
+    for (area = areas; area < areas + AREAS; area++)
+        expect_nothing_around(who, area);
 }
 
 void expect_same_answer(const char *who, avm_answer got, avm_answer want)
@@ -160,7 +96,7 @@ static void expect_same_word(const char *who, const char *name, uint64_t got, ui
     expect(got == want, "%s leaves %s as %08llX, not %08llX", who, name, (unsigned long long)got, (unsigned long long)want);
 }
 
-static void expect_same_words(const char *who, const char *name, const uint32_t *got, const uint32_t *want, size_t length)
+void expect_same_words(const char *who, const char *name, const uint32_t *got, const uint32_t *want, size_t length)
 {
     size_t place;
 

@@ -7,6 +7,7 @@
 #include <stdint.h>
 
 #include "../../include/schoonleech.h"
+#include "areas.h"
 
 /* Room for lengths that are refused too. */
 enum { PROGRAM_ROOM = 1024, MEMORY_ROOM = 32768, REGISTERS_ROOM = 64, REQUESTS_ROOM = 8192 };
@@ -42,6 +43,8 @@ struct implementation {
     avm_answer (*steps)(uint32_t *memory, size_t m, uint32_t *registers, size_t count, uint32_t *state, const uint8_t *requests,
                         size_t bytes);
     avm_answer (*check)(const uint64_t *program, size_t words);
+    avm_answer (*read)(uint32_t *memory, size_t m, const uint8_t *text, size_t bytes);
+    avm_answer (*write)(const uint32_t *memory, size_t m, uint8_t *room, size_t bytes);
 };
 
 extern const struct implementation engine, simulator;
@@ -54,10 +57,7 @@ avm_answer call_check(const struct implementation *implementation, const struct 
 /* The inputs' own arrays as places. */
 struct places places_in(struct inputs *inputs);
 
-/* Copies of the inputs, each in pages of its own between two pages that can't be touched: its last byte just before the second of them, or
-   its first byte just after the first. What is left of its pages holds a pattern. Program and requests can only be read. A slice of no
-   length is NULL on one side and points at the guard page on the other. Lending again takes the earlier places away. */
-enum side { AT_END, AT_START, SIDES };
+/* Copies of the inputs, each lent from an area of its own. Program and requests can only be read. */
 struct places lend(const struct inputs *inputs, enum side side);
 
 /* The program alone, for the call that takes nothing else; it costs a fraction of lending all. */
@@ -66,8 +66,9 @@ struct places lend_program(const struct inputs *inputs, enum side side);
 /* Expects that the pattern around the places of the last lend is whole. */
 void expect_nothing_beyond(const char *who);
 
-/* Expects equal answers and equal bytes in all places. */
+/* Expects equal answers, equal words of a slice that has a name, and equal bytes in all places. */
 void expect_same_answer(const char *who, avm_answer got, avm_answer want);
+void expect_same_words(const char *who, const char *name, const uint32_t *got, const uint32_t *want, size_t length);
 void expect_same_places(const char *who, const struct places *got, const struct places *want);
 
 #endif

@@ -1,5 +1,6 @@
 #include "simulator.h"
 
+#include "images.h"
 #include "instructions.h"
 #include "microword.h"
 #include "phases.h"
@@ -231,4 +232,31 @@ avm_answer sim_check(const uint64_t *program, size_t words)
         if (walks.ends[microcycles])
             answer.microcycles.count = microcycles;
     return answer;
+}
+
+/* Numbers 1 and 9 of the scope before any line. */
+avm_answer sim_read(uint32_t *memory, size_t m, const uint8_t *text, size_t bytes)
+{
+    static struct image image;
+    struct judgement judgement;
+
+    if (!is_power_of_two_in_range(m))
+        return numbered(AVM_BAD_MEMORY_LENGTH, 0);
+    if (bytes > TEXT_BYTES)
+        return numbered(AVM_TEXT_TOO_LONG, 0);
+    take_records(&image, text, bytes);
+    judgement = judge_image(&image, m);
+    if (judgement.number == AVM_DONE)
+        store_image(&image, memory);
+    return numbered(judgement.number, judgement.line);
+}
+
+avm_answer sim_write(const uint32_t *memory, size_t m, uint8_t *room, size_t bytes)
+{
+    if (!is_power_of_two_in_range(m))
+        return numbered(AVM_BAD_MEMORY_LENGTH, 0);
+    if (bytes < written_length(m))
+        return numbered(AVM_NO_ROOM, written_length(m));
+    write_text(memory, m, (char *)room);
+    return numbered(AVM_DONE, written_length(m));
 }
