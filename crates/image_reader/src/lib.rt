@@ -112,19 +112,14 @@ fn store_words(memory: &mut [u32], line: &[u8], first: u32, count: u16)
 fn store_line(memory: &mut [u32], line: &[u8])
     ensures { λ r. ⌜ now (memory .exit) ≡ with-line (now (memory .entry)) (now (line .entry)) ⌝ }
 {
-    match record(line) {
-        Line::NoRecord => {}
-        Line::Record {
-            count,
-            address,
-            kind,
-            sum: _,
-        } => {
-            if kind == 0 {
-                store_words(memory, line, address / 4, count / 4);
-            }
-        }
+    let heading = records::heading(line);
+    let kind = heading.kind;
+    let address = heading.address;
+    let count = heading.count;
+    if kind != 0 {
+        return;
     }
+    store_words(memory, line, address / 4, count / 4);
 }
 
 // The words of all lines.

@@ -12,12 +12,10 @@ use Rattle.answers.specs.Ends.{is-done}
 use Rattle.answers.proofs.OneNumberAnEnd.{only-done-is-done}
 use Rattle.placing.specs.Placing.{names, stored}
 use Rattle.placing.proofs.WordsNotNamed.{not-named-kept}
-use Rattle.images.specs.declared.Line.{Line}
-use Rattle.images.specs.declared.Line.the-variants.{NoRecord, Record}
 use Rattle.images.specs.Digits.{words-of}
 use Rattle.images.specs.Lines.{lines-of}
-use Rattle.images.specs.Records.{record-of, data-of}
-use Rattle.images.specs.Reading.{data-kind, line-stored, with-line, loaded, read-answer, memory-after}
+use Rattle.images.specs.Records.{count-of, address-of, kind-of, data-of}
+use Rattle.images.specs.Reading.{data-kind, with-line, loaded, read-answer, memory-after}
 use Rattle.images.specs.Writing.{write-answer, room-after}
 
 -- ---- refused
@@ -44,13 +42,12 @@ neither-of true y e = absurd (false≢true (sym e))
 neither-of false y e = (refl, e)
 
 -- the words that a line names: those of a data record
-abbrev pub line-names : Line → ℕ → Bool
-line-names NoRecord w = false
-line-names (Record count address kind sum) w = cond (eqb kind data-kind) (names address count w) false
+abbrev pub line-names : List ℕ → ℕ → Bool
+line-names line w = cond (eqb (kind-of line) data-kind) (names (address-of line) (count-of line) w) false
 
 abbrev pub named-in : List (List ℕ) → ℕ → Bool
 named-in [] w = false
-named-in (line ∷ lines) w = line-names (record-of line) w || named-in lines w
+named-in (line ∷ lines) w = line-names line w || named-in lines w
 
 as-many : (n : ℕ) (t : List ℕ) → length (words-of n t) ≡ n
 as-many zero t = refl
@@ -62,18 +59,17 @@ kind-keeps : (memory words : List ℕ) (address count w : ℕ) (is-data : Bool) 
 kind-keeps memory words address count w true n e = not-named-kept memory words address count w n e
 kind-keeps memory words address count w false n e = refl
 
-line-keeps : (memory line : List ℕ) (said : Line) (w : ℕ) → line-names said w ≡ false →
-    getD (line-stored memory line said) w 0 ≡ getD memory w 0
-line-keeps memory line NoRecord w h = refl
-line-keeps memory line (Record count address kind sum) w h =
-    kind-keeps memory (words-of (count / 4) (data-of line)) address count w (eqb kind data-kind) (as-many (count / 4) (data-of line)) h
+line-keeps : (memory line : List ℕ) (w : ℕ) → line-names line w ≡ false → getD (with-line memory line) w 0 ≡ getD memory w 0
+line-keeps memory line w h =
+    kind-keeps memory (words-of (count-of line / 4) (data-of line)) (address-of line) (count-of line) w (eqb (kind-of line) data-kind)
+    (as-many (count-of line / 4) (data-of line)) h
 
 lines-keep : (lines : List (List ℕ)) (memory : List ℕ) (w : ℕ) → named-in lines w ≡ false →
     getD (foldl with-line memory lines) w 0 ≡ getD memory w 0
 lines-keep [] memory w h = refl
 lines-keep (line ∷ lines) memory w h =
-    let neither = neither-of (line-names (record-of line) w) (named-in lines w) h in
-    lines-keep lines (with-line memory line) w (neither .1) ∙ line-keeps memory line (record-of line) w (neither .0)
+    let neither = neither-of (line-names line w) (named-in lines w) h in
+    lines-keep lines (with-line memory line) w (neither .1) ∙ line-keeps memory line w (neither .0)
 
 pub words-not-named-keep-their-value : (memory text : List ℕ) (w : ℕ) → named-in (lines-of text) w ≡ false →
     getD (memory-after memory text) w 0 ≡ getD memory w 0

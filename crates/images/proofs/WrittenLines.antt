@@ -11,7 +11,7 @@ use Rattle.words.proofs.Cases.{both-of}
 use Rattle.images.specs.declared.Line.the-variants.{Record}
 use Rattle.images.specs.Digits.{byte-of, bytes-of, all-bytes, sum-of, digit, hex}
 use Rattle.images.specs.Lines.{lf, lines-of, before-first, is-end}
-use Rattle.images.specs.Records.{record-of, record-bytes, count-of}
+use Rattle.images.specs.Records.{record-of, record-bytes, count-of, address-of, kind-of}
 use Rattle.images.specs.Writing.{checksum, line-of}
 use Rattle.images.proofs.RecordCases.{a-record}
 use Rattle.images.proofs.WrittenDigits.{digit-at-least, byte-read, bytes-read, behind-digits, all-bytes-joined}
@@ -67,8 +67,14 @@ module _ (count high low kind : ℕ) (contents : List ℕ) (l : length contents 
   long : length summed ≡ count + 5
   long = omega (arith, length-append contents (checksum (sum-of bytes) ∷ []))
 
-  count-read : count-of (line-of bytes) ≡ count
+  pub count-read : count-of (line-of bytes) ≡ count
   count-read = byte-read count hc
+
+  pub address-read : address-of (line-of bytes) ≡ 256 * high + low
+  address-read = rw (byte-read high hh, byte-read low hl)
+
+  pub kind-read : kind-of (line-of bytes) ≡ kind
+  kind-read = byte-read kind hk
 
   all-read : record-bytes (line-of bytes) ≡ summed
   all-read =
@@ -84,4 +90,4 @@ module _ (count high low kind : ℕ) (contents : List ℕ) (l : length contents 
   pub record-written : record-of (line-of bytes) ≡ Record count (256 * high + low) kind 0
   record-written =
       a-record (line-of bytes) refl (ap all-bytes all-read ∙ all-are) (ap is-end end-read)
-      ∙ rw (all-read, count-read, byte-read high hh, byte-read low hl, byte-read kind hk, sum-is-0 bytes)
+      ∙ rw (all-read, count-read, address-read, kind-read, sum-is-0 bytes)

@@ -2,19 +2,21 @@
 use Prim.Native.Nat.{ℕ, suc, _+_, _*_, _/_, _%_, _^_, _<_, _≤_}
 use native.Mathlib.Omega.{arith}
 use mathlib.Core.Path.{_≡_, refl, ap, _∙_}
-use mathlib.Core.Bool.{true, _&&_}
+use mathlib.Core.Bool.{true, _&&_, cond}
+use lib.Dec.{eqb}
 use mathlib.Core.List.{List, [], _∷_, _++_}
 use lib.Seq.{sets}
 use Rattle.images.specs.declared.Line.{Line}
 use Rattle.images.specs.declared.Line.the-variants.{Record}
 use Rattle.images.specs.declared.Reading.the-variants.{Open, Ended}
+use Rattle.placing.specs.Placing.{stored}
 use Rattle.placing.proofs.PlacingCases.{at-its-place}
 use Rattle.images.specs.Digits.{all-bytes, word-bytes, words-of}
-use Rattle.images.specs.Records.{record-of, data-of}
-use Rattle.images.specs.Reading.{tested, with-line, line-stored}
+use Rattle.images.specs.Records.{record-of, count-of, address-of, kind-of, data-of}
+use Rattle.images.specs.Reading.{data-kind, tested, with-line}
 use Rattle.images.specs.Writing.{data-line, data-bytes, end-line}
 use Rattle.images.proofs.WrittenDigits.{all-bytes-joined, word-bytes-are, word-read}
-use Rattle.images.proofs.WrittenLines.{record-written}
+use Rattle.images.proofs.WrittenLines.{count-read, address-read, kind-read, record-written}
 
 -- ---- the end record
 
@@ -26,7 +28,8 @@ unfolding tested
 text-ended m number end = rw end-read
 
 pub nothing-stored : (memory : List ℕ) → with-line memory end-line ≡ memory
-nothing-stored memory = ap (line-stored memory end-line) end-read
+nothing-stored memory =
+    rw (kind-read 0 0 0 1 [] refl (omega arith) (omega arith) (omega arith) (omega arith) refl)
 
 -- ---- a data record
 
@@ -37,14 +40,23 @@ module _ (i w x y z : ℕ) (hi : i < 4096) (hw : w < 2 ^ 32) (hx : x < 2 ^ 32) (
       (all-bytes-joined (word-bytes x) (word-bytes y ++ word-bytes z) (word-bytes-are x hx)
       (all-bytes-joined (word-bytes y) (word-bytes z) (word-bytes-are y hy) (word-bytes-are z hz)))
 
+  abbrev contents : List ℕ
+  contents = word-bytes w ++ (word-bytes x ++ (word-bytes y ++ word-bytes z))
+
+  -- the address' two bytes
+  two-bytes : 256 * (16 * i / 256) + 16 * i % 256 ≡ 16 * i
+  two-bytes = omega arith
+
+  high-lt : 16 * i / 256 < 256
+  high-lt = omega arith
+
+  low-lt : 16 * i % 256 < 256
+  low-lt = omega arith
+
   pub data-read : record-of (data-line (16 * i) w x y z) ≡ Record 16 (16 * i) 0 0
   data-read =
-      record-written 16 (16 * i / 256) (16 * i % 256) 0 (word-bytes w ++ (word-bytes x ++ (word-bytes y ++ word-bytes z))) refl
-      (omega arith) (omega arith) (omega arith) (omega arith) all-are
-      ∙ ap (λ (a : ℕ). Record 16 a 0 0) address
-    where
-      address : 256 * (16 * i / 256) + 16 * i % 256 ≡ 16 * i
-      address = omega arith
+      record-written 16 (16 * i / 256) (16 * i % 256) 0 contents refl (omega arith) high-lt low-lt (omega arith) all-are
+      ∙ ap (λ (a : ℕ). Record 16 a 0 0) two-bytes
 
   pub words-read : words-of 4 (data-of (data-line (16 * i) w x y z)) ≡ w ∷ x ∷ y ∷ z ∷ []
   words-read = λ j. word-read w hw j ∷ word-read x hx j ∷ word-read y hy j ∷ word-read z hz j ∷ []
@@ -54,9 +66,17 @@ module _ (i w x y z : ℕ) (hi : i < 4096) (hw : w < 2 ^ 32) (hx : x < 2 ^ 32) (
   words-placed m number h =
       rw (data-read, at-its-place m (16 * i) (16 * i) 16 (omega arith) refl (omega arith) (omega arith)) (ap Open (omega arith))
 
+  abbrev line : List ℕ
+  line = data-line (16 * i) w x y z
+
   pub words-stored : (memory : List ℕ) → with-line memory (data-line (16 * i) w x y z) ≡ sets memory (4 * i) (w ∷ x ∷ y ∷ z ∷ [])
   words-stored memory =
-      ap (line-stored memory (data-line (16 * i) w x y z)) data-read
+      ap (λ (k : ℕ). cond (eqb k data-kind) (stored memory (address-of line) (words-of (count-of line / 4) (data-of line))) memory)
+      (kind-read 16 (16 * i / 256) (16 * i % 256) 0 contents refl (omega arith) high-lt low-lt (omega arith) all-are)
+      ∙ ap (λ (a : ℕ). stored memory a (words-of (count-of line / 4) (data-of line)))
+      (address-read 16 (16 * i / 256) (16 * i % 256) 0 contents refl (omega arith) high-lt low-lt (omega arith) all-are ∙ two-bytes)
+      ∙ ap (λ (n : ℕ). stored memory (16 * i) (words-of (n / 4) (data-of line)))
+      (count-read 16 (16 * i / 256) (16 * i % 256) 0 contents refl (omega arith) high-lt low-lt (omega arith) all-are)
       ∙ ap (sets memory (16 * i / 4)) words-read
       ∙ ap (λ (a : ℕ). sets memory a (w ∷ x ∷ y ∷ z ∷ [])) place
     where

@@ -18,7 +18,7 @@ use Rattle.images.specs.declared.Reading.{Reading}
 use Rattle.images.specs.declared.Reading.the-variants.{Open, Ended, Refused}
 use Rattle.images.specs.Digits.{words-of}
 use Rattle.images.specs.Lines.{lines-of}
-use Rattle.images.specs.Records.{record-of, data-of}
+use Rattle.images.specs.Records.{record-of, count-of, address-of, kind-of, data-of}
 
 abbrev pub most-text : ℕ
 most-text = 262144
@@ -69,15 +69,11 @@ read-lines m lines reading (line ∷ rest) = read-lines m (suc lines) (next m (s
 abbrev pub judged : ℕ → List ℕ → End
 judged m text = read-lines m 0 (Open 0) (lines-of text)
 
--- ---- what is stored
-
-abbrev pub line-stored : List ℕ → List ℕ → Line → List ℕ
-line-stored memory line NoRecord = memory
-line-stored memory line (Record count address kind sum) =
-    cond (eqb kind data-kind) (stored memory address (words-of (count / 4) (data-of line))) memory
+-- ---- what is stored: the words of each data record. Asked of accepted texts alone, so each line is a record
 
 abbrev pub with-line : List ℕ → List ℕ → List ℕ
-with-line memory line = line-stored memory line (record-of line)
+with-line memory line =
+    cond (eqb (kind-of line) data-kind) (stored memory (address-of line) (words-of (count-of line / 4) (data-of line))) memory
 
 abbrev pub loaded : List ℕ → List ℕ → List ℕ
 loaded memory text = foldl with-line memory (lines-of text)

@@ -5,6 +5,7 @@ use mathlib.Core.Bool.{Bool, _&&_, cond}
 use mathlib.Core.List.{List, [], _∷_}
 use lib.Dec.{eqb}
 use lib.ListN.{getD, drop}
+use Rattle.images.specs.declared.Heading.{Heading}
 use Rattle.images.specs.declared.Line.{Line}
 use Rattle.images.specs.declared.Line.the-variants.{NoRecord, Record}
 use Rattle.images.specs.Digits.{byte-of, bytes-of, all-bytes, sum-of}
@@ -29,6 +30,10 @@ address-of line = 256 * byte-of (drop 3 line) + byte-of (drop 5 line)
 
 abbrev pub kind-of : List ℕ → ℕ
 kind-of line = byte-of (drop 7 line)
+
+-- the four bytes before the data
+abbrev pub heading-of : List ℕ → Heading
+heading-of line = record { count = count-of line; address = address-of line; kind = kind-of line }
 
 unfoldable pub record-of : List ℕ → Line
 record-of line =

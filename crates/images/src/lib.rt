@@ -2,6 +2,13 @@
 // The definitions of specs/ speak of these.
 use answers::End;
 
+// The first four bytes of a record.
+pub struct Heading {
+    pub count: u16,
+    pub address: u32,
+    pub kind: u16,
+}
+
 // What a line says: a record, or nothing of record form. The sum is that of all its bytes modulo
 // 256, the checksum included.
 pub enum Line {

@@ -8,13 +8,13 @@ use mathlib.Core.List.{List, [], _∷_}
 use lib.ListN.{length, getD, drop}
 use borrow.Author.Tests.{eq-eqb, ne-eqb}
 use Rattle.words.proofs.Cases.{turned, upright}
-use Rattle.images.specs.declared.Line.{Line}
+use Rattle.images.specs.declared.Heading.{Heading}
 use Rattle.images.specs.declared.Line.the-variants.{NoRecord, Record}
 use Rattle.images.specs.declared.Total.{Total}
 use Rattle.images.specs.declared.Total.the-variants.{Sum, NoByte}
 use Rattle.images.specs.Digits.{byte-of, bytes-of, all-bytes, sum-of}
 use Rattle.images.specs.Lines.{is-end}
-use Rattle.images.specs.Records.{colon, record-of, record-bytes, count-of, address-of, kind-of}
+use Rattle.images.specs.Records.{colon, record-of, record-bytes, count-of, heading-of}
 use Rattle.images.proofs.RecordCases.{no-colon, no-bytes, no-end, a-record}
 use Rattle.records.specs.Found.{total-of}
 
@@ -50,27 +50,27 @@ module _ (line : List ℕ) where
   pub colon-missing : (getD line 0 0 ≡ colon → ⊥) → record-of line ≡ NoRecord
   colon-missing h = no-colon line (ne-eqb (getD line 0 0) colon h)
 
-  module _ (starts : getD line 0 0 ≡ colon) {count : ℕ} (c : count ≡ count-of line)
-      {total : Total} (t : total ≡ total-of 0 (bytes-of (count + 5) (drop 1 line))) where
+  module _ (starts : getD line 0 0 ≡ colon) {heading : Heading} (c : heading ≡ heading-of line)
+      {total : Total} (t : total ≡ total-of 0 (bytes-of (heading .count + 5) (drop 1 line))) where
     of-all : total ≡ total-of 0 (record-bytes line)
-    of-all = t ∙ ap (λ (n : ℕ). total-of 0 (bytes-of (n + 5) (drop 1 line))) c
+    of-all = t ∙ ap (λ (h : Heading). total-of 0 (bytes-of (h .count + 5) (drop 1 line))) c
 
     pub byte-missing : total ≡ NoByte → record-of line ≡ NoRecord
     byte-missing h = no-bytes line (eq-eqb (getD line 0 0) colon starts) (told (record-bytes line) ∙ ap is-sum (sym of-all ∙ h))
 
-    module _ {sum : ℕ} (h : total ≡ Sum sum) {ends : Bool} (e : ends ≡ is-end (drop (11 + 2 * count) line)) where
+    module _ {sum : ℕ} (h : total ≡ Sum sum) {ends : Bool} (e : ends ≡ is-end (drop (11 + 2 * heading .count) line)) where
       all-bytes-there : all-bytes (record-bytes line) ≡ true
       all-bytes-there = told (record-bytes line) ∙ ap is-sum (sym of-all ∙ h)
 
       the-end : is-end (drop (11 + 2 * count-of line) line) ≡ ends
-      the-end = sym (e ∙ ap (λ (n : ℕ). is-end (drop (11 + 2 * n) line)) c)
+      the-end = sym (e ∙ ap (λ (h : Heading). is-end (drop (11 + 2 * h .count) line)) c)
 
       pub end-missing : not ends ≡ true → record-of line ≡ NoRecord
       end-missing n = no-end line (eq-eqb (getD line 0 0) colon starts) all-bytes-there (the-end ∙ turned ends n)
 
-      pub whole-record : not ends ≡ false → {r : Line} → r ≡ Record count (address-of line) (kind-of line) sum → record-of line ≡ r
-      whole-record n f =
+      pub whole-record : not ends ≡ false → record-of line ≡ Record (heading .count) (heading .address) (heading .kind) sum
+      whole-record n =
           a-record line (eq-eqb (getD line 0 0) colon starts) all-bytes-there (the-end ∙ upright ends n)
-          ∙ ap (λ (k : ℕ). Record k (address-of line) (kind-of line) (sum-of (record-bytes line) % 256)) (sym c)
-          ∙ ap (Record count (address-of line) (kind-of line)) (sum-told (record-bytes line) all-bytes-there ∙ ap sum-in (sym of-all ∙ h))
-          ∙ sym f
+          ∙ ap (λ (h : Heading). Record (h .count) (h .address) (h .kind) (sum-of (record-bytes line) % 256)) (sym c)
+          ∙ ap (Record (heading .count) (heading .address) (heading .kind))
+          (sum-told (record-bytes line) all-bytes-there ∙ ap sum-in (sym of-all ∙ h))

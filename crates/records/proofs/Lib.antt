@@ -1,4 +1,5 @@
 -- Laws over the definitions, a file each.
+pub mod DigitValues
 pub mod DigitPairs
 pub mod LineEnds
 pub mod Totals

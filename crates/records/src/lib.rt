@@ -1,32 +1,32 @@
 // The pieces of a text: a digit, a byte, a word, the end of a line, and what a line says.
 ghost use mathlib.Core.Path.{_≡_};
 ghost use Prim.Native.Nat.{_+_};
+ghost use mathlib.Core.Bool.{cond};
 ghost use lib.ListN.{drop};
 ghost use Rattle.images.specs.Digits.{digit-value, byte-of, bytes-of, word-of};
 ghost use Rattle.images.specs.Lines.{is-end};
-ghost use Rattle.images.specs.Records.{record-of, address-of, kind-of};
-ghost use Rattle.images.specs.declared.Line.the-variants.{Record};
+ghost use Rattle.images.specs.Records.{record-of, heading-of};
 ghost use Rattle.records.specs.Found.{total-of, line-length};
+use images::Heading;
 use images::Line;
 use images::Total;
+
+// One of two numbers that are both at hand, so that the compiler needs no branch: digits and letters
+// come in no order that a processor could foresee.
+fn either(first: bool, a: u16, b: u16) -> u16
+    ensures { λ r. ⌜ r ≡ cond first a b ⌝ }
+{
+    if first { a } else { b }
+}
 
 // The value of a hex digit of either case; 16 of anything else.
 fn value(c: u8) -> u16
     ensures { λ r. ⌜ r ≡ digit-value c ⌝ }
 {
-    let decimal = (48 <= c) & (c <= 57);
-    if decimal {
-        return (c - 48) as u16;
-    }
-    let upper = (65 <= c) & (c <= 70);
-    if upper {
-        return (c - 55) as u16;
-    }
-    let lower = (97 <= c) & (c <= 102);
-    if lower {
-        return (c - 87) as u16;
-    }
-    16
+    let code = c as u16 + 256;
+    let lower = either((97 <= c) & (c <= 102), (code - 87) % 256, 16);
+    let upper = either((65 <= c) & (c <= 70), (code - 55) % 256, lower);
+    either((48 <= c) & (c <= 57), (code - 48) % 256, upper)
 }
 
 // The byte of two digits at `at`; 256 where there is none.
@@ -98,18 +98,18 @@ fn ended(line: &[u8], from: usize) -> bool
     false
 }
 
-// The record of a line whose bytes were found, with their count and sum.
-fn fields(line: &[u8], count: u16, sum: u8) -> Line
-    ensures { λ r. ⌜ r ≡ Record count (address-of (now (line .entry))) (kind-of (now (line .entry))) sum ⌝ }
+// The count, the address and the type of a record.
+pub fn heading(line: &[u8]) -> Heading
+    ensures { λ r. ⌜ r ≡ heading-of (now (line .entry)) ⌝ }
 {
+    let count = byte(line, 1);
     let high = byte(line, 3) as u32;
     let low = byte(line, 5) as u32;
     let kind = byte(line, 7);
-    Line::Record {
+    Heading {
         count: count,
         address: 256 * high + low,
         kind: kind,
-        sum: sum,
     }
 }
 
@@ -123,14 +123,20 @@ pub fn record(line: &[u8]) -> Line
     if line[0] != 58 {
         return Line::NoRecord;
     }
-    let count = byte(line, 1);
+    let heading = heading(line);
+    let count = heading.count;
     match total(line, count) {
         Total::NoByte => Line::NoRecord,
         Total::Sum(sum) => {
             if !ended(line, 11 + 2 * count as usize) {
                 return Line::NoRecord;
             }
-            fields(line, count, sum)
+            Line::Record {
+                count: count,
+                address: heading.address,
+                kind: heading.kind,
+                sum: sum,
+            }
         }
     }
 }

@@ -14,25 +14,25 @@ returns-2 c = sym (colon-missing (c .before .before .before .before .args .line 
 returns-3 : tie.Need-returns-3
 returns-3 c =
     let behind = c .before in let summed = behind .before .before in let all = summed .before .before in
-    let count = all .before in let starts = count .before in
+    let read = all .before in let starts = read .before in
     sym
-    (end-missing (starts .before .before .before .before .args .line .now) (starts .if2 .left) (count .byte .ensures)
+    (end-missing (starts .before .before .before .before .args .line .now) (starts .if2 .left) (read .heading .ensures)
     (all .total .ensures) (summed .sum .given .1) (behind .ended .ensures) (c .if3 .taken))
 
 returns-4 : tie.Need-returns-4
 returns-4 c =
-    let all = c .before .before in let count = all .before in let starts = count .before in
+    let all = c .before .before in let read = all .before in let starts = read .before in
     sym
-    (byte-missing (starts .before .before .before .before .args .line .now) (starts .if2 .left) (count .byte .ensures)
+    (byte-missing (starts .before .before .before .before .args .line .now) (starts .if2 .left) (read .heading .ensures)
     (all .total .ensures) (c .enum-told .given .1))
 
 returns-5 : tie.Need-returns-5
 returns-5 c =
-    let behind = c .before .before in let summed = behind .before .before in let all = summed .before .before in
-    let count = all .before in let starts = count .before in
+    let behind = c .before in let summed = behind .before .before in let all = summed .before .before in
+    let read = all .before in let starts = read .before in
     sym
-    (whole-record (starts .before .before .before .before .args .line .now) (starts .if2 .left) (count .byte .ensures)
-    (all .total .ensures) (summed .sum .given .1) (behind .ended .ensures) (c .before .if3 .left) (c .fields .ensures))
+    (whole-record (starts .before .before .before .before .args .line .now) (starts .if2 .left) (read .heading .ensures)
+    (all .total .ensures) (summed .sum .given .1) (behind .ended .ensures) (c .if3 .left))
 
 pub record-spec : {M : Type 1} → statement M
 record-spec =
@@ -50,6 +50,5 @@ record-spec =
     (λ c. search needs)
     (λ c κs. search needs)
     returns-3
-    (λ c κs. search needs)
     returns-4
     returns-5)
