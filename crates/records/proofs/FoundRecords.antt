@@ -40,6 +40,13 @@ sum-told : (bytes : List ℕ) → all-bytes bytes ≡ true → sum-of bytes % 25
 unfolding total-of
 sum-told bytes h = rw (h, zero-add)
 
+-- ---- the heading
+
+pub heading-found : (line : List ℕ) {count high low kind : ℕ} → count ≡ byte-of (drop 1 line) → high ≡ byte-of (drop 3 line) →
+    low ≡ byte-of (drop 5 line) → kind ≡ byte-of (drop 7 line) →
+    _≡_ {A = Heading} (record { count = count; address = 256 * high + low; kind = kind }) (heading-of line)
+heading-found line c h l k = λ i. record { count = c i; address = 256 * h i + l i; kind = k i }
+
 -- ---- the line
 
 pub empty-line : (line : List ℕ) → length line ≡ 0 → record-of line ≡ NoRecord

@@ -1,13 +1,13 @@
 -- The fields stand where the definition reads them.
 use borrow.Author.Needs.{needs}
-use mathlib.Core.Path.{_≡_}
+use Rattle.records.proofs.FoundRecords.{heading-found}
 use Rattle.records.proofs.heading.Statement.{statement}
 use Rattle.records.proofs.heading.Tie as tie
 
 returns : tie.Need-returns
 returns c =
     let low = c .before in let high = low .before in let count = high .before in
-    rw (← count .byte .ensures, ← high .byte2 .ensures, ← low .byte3 .ensures, ← c .byte4 .ensures)
+    heading-found (count .before .before .args .line .now) (count .byte .ensures) (high .byte2 .ensures) (low .byte3 .ensures) (c .byte4 .ensures)
 
 pub heading-spec : {M : Type 1} → statement M
 heading-spec =
