@@ -16,11 +16,13 @@ static int give_up(const char *what, const char *name)
 static int load(const char *name, size_t *bytes)
 {
     FILE *file = fopen(name, "rb");
+    int failed;
 
     if (file == NULL)
         return 0;
     *bytes = fread(text, 1, sizeof text, file);
-    return fclose(file) == 0;
+    failed = ferror(file);
+    return fclose(file) == 0 && !failed;
 }
 
 static int save(const char *name)

@@ -199,8 +199,8 @@ avm_answer avm_check(const uint64_t *program, size_t words);
 
        :CCAAAATT..SS   CC count, AAAA address, TT type, .. as many bytes of data as CC says, SS checksum
 
-   A line has exactly CC + 5 bytes and nothing else, no blank either. It ends with LF or CR LF. The last line may end where the text does;
-   a CR without LF ends no line. The sum of a record's bytes, SS too, is 0 modulo 256.
+   A line has exactly CC + 5 such bytes, two digits each, and nothing else, no blank either. It ends with LF or CR LF. The last line may
+   end where the text does; a CR without LF ends no line. The sum of a record's bytes, SS too, is 0 modulo 256.
 
    Type 00   data, for the image's bytes from AAAA on. AAAA and CC are multiples of 4, and AAAA + CC, the record's end, is at most 4 * m.
              A record starts at or after the end of the one before it. CC may be 0: such a record stores nothing, but is tested like the

@@ -3,7 +3,7 @@
 #
 # SCHOONLEECH_IMAGE  a program to test instead of target/bin/image
 . tests/host/counting.bash
-. tests/host/x86_64.bash
+. tests/host/emulator.bash
 image=${SCHOONLEECH_IMAGE:-target/bin/image}
 [ -x "$image" ] || { echo "image: there is no $image; run rt check first"; failed=1; finish; }
 
@@ -20,10 +20,11 @@ run() {
     $emulator "$image" >"$work/out" 2>"$work/complaints"
 }
 
-# Expects exactly these lines on standard output and nothing beside them, from a program that ended by itself.
+# Expects exactly these lines on standard output, nothing beside them, and status 0, which the program has whatever it prints
+# (docs/DECISIONS.md, I10).
 has_shown() { # STATUS LINE..
     printf '%s\n' "${@:2}" >"$work/wanted"
-    cmp "$work/wanted" "$work/out" && [ ! -s "$work/complaints" ] && [ "$1" -lt 126 ] && return
+    cmp "$work/wanted" "$work/out" && [ ! -s "$work/complaints" ] && [ "$1" -eq 0 ] && return
     echo "status $1, on standard output and error:"
     head -c 1000 "$work/out" "$work/complaints"
     return 1

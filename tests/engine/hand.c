@@ -183,6 +183,13 @@ avm_answer accepted(uint64_t microcycles)
     return done(microcycles, 0);
 }
 
+avm_answer taken(uint64_t at)
+{
+    avm_answer answer = {AVM_DONE, at, {0}, {0}};
+
+    return answer;
+}
+
 static const struct implementation *const both[] = {&engine, &simulator};
 
 static void expect_outcome(const char *who, avm_answer got, avm_answer want, const struct places *places, const struct inputs *after)

@@ -49,6 +49,7 @@ avm_answer done(uint64_t microcycles, uint64_t steps);
 avm_answer left(uint64_t microcycles, uint64_t steps);
 avm_answer refused(uint64_t number, uint64_t at);
 avm_answer accepted(uint64_t microcycles);
+avm_answer taken(uint64_t at); /* of an image: 0 where it was read, its bytes where it was written */
 
 /* Expect the answer and the final content of every place, of the engine and of the second simulator, on both sides of a guard page. */
 void check_run(const struct inputs *before, const struct inputs *after, avm_answer want);

@@ -238,11 +238,11 @@ static uint64_t round_trip_case(struct dice *dice, enum side side)
 
     memcpy(memory_after, drawn_image.memory, drawn_image.m * sizeof memory_after[0]);
     lent = lend_to_write(&drawn_image, side);
-    compare_answers(call_write(&engine, &lent), refused(AVM_DONE, drawn_image.bytes));
+    compare_answers(call_write(&engine, &lent), taken(drawn_image.bytes));
     memcpy(drawn_image.text, lent.text, drawn_image.bytes);
     draw_memory(dice, &drawn_image, drawn_image.m);
     lent = lend_to_read(&drawn_image, side);
-    compare_answers(call_read(&engine, &lent), refused(AVM_DONE, 0));
+    compare_answers(call_read(&engine, &lent), taken(0));
     expect_same_words("engine", "memory", lent.memory, memory_after, lent.m);
     return 1;
 }

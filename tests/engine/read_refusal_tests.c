@@ -291,7 +291,7 @@ static void every_address(void)
                 add(&image, "\n" END);
                 answer = engine.read(image.memory, image.m, image.text, image.bytes);
                 stand_at_row(address);
-                expect_same_answer("engine", answer, fits ? refused(AVM_DONE, 0) : refused(AVM_BAD_EXTENT, 1));
+                expect_same_answer("engine", answer, fits ? taken(0) : refused(AVM_BAD_EXTENT, 1));
             }
 }
 

@@ -18,7 +18,7 @@ static void prepare(size_t m)
 
 static void take(void)
 {
-    check_read(&image, after, refused(AVM_DONE, 0));
+    check_read(&image, after, taken(0));
 }
 
 /* The word at a byte address of a record whose bytes go up from the first. */

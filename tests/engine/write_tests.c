@@ -23,7 +23,7 @@ static void make_room(size_t bytes)
 static void check_written(const char *text)
 {
     memcpy(room_after, text, strlen(text));
-    check_write(&image, room_after, refused(AVM_DONE, strlen(text)));
+    check_write(&image, room_after, taken(strlen(text)));
 }
 
 static void refuse_to_write(uint64_t number, uint64_t at)
@@ -70,7 +70,7 @@ static void the_last_record(void)
     start_image(&image, 16384);
     make_room(AVM_WRITTEN(16384));
     places = lend_to_write(&image, AT_END);
-    expect_same_answer("engine", call_write(&engine, &places), refused(AVM_DONE, 180236));
+    expect_same_answer("engine", call_write(&engine, &places), taken(180236));
     expect_same_text("engine", places.text + 180236 - strlen(last), (const uint8_t *)last, strlen(last));
 }
 
@@ -105,7 +105,7 @@ static void enough_room(void)
             start_image(&image, legal[k]);
             make_room(needed + more[beyond]);
             simulator.write(image.memory, image.m, room_after, needed);
-            check_write(&image, room_after, refused(AVM_DONE, needed));
+            check_write(&image, room_after, taken(needed));
         }
 }
 
@@ -153,8 +153,8 @@ static void written_texts_read_back(void)
         for (word = 0; word < legal[k]; word++)
             other.memory[word] = ~image.memory[word];
         other.bytes = AVM_WRITTEN(legal[k]);
-        expect_same_answer("engine", engine.write(image.memory, image.m, other.text, other.bytes), refused(AVM_DONE, other.bytes));
-        check_read(&other, image.memory, refused(AVM_DONE, 0));
+        expect_same_answer("engine", engine.write(image.memory, image.m, other.text, other.bytes), taken(other.bytes));
+        check_read(&other, image.memory, taken(0));
     }
 }
 

@@ -1,13 +1,30 @@
 # Sets `library`, the archive of the C calls (include/schoonleech.h) that a script links. `prove_library` proves it and writes it where it
-# is not there, or a crate changed after it was begun: that takes half a minute, and several scripts need it. Without the kit's rt the
-# script that reads this file ends with 77.
+# is not there, or a crate or the kit changed after it was begun: that takes half a minute, and several scripts need it. Without the kit's
+# rt the script that reads this file ends with 77.
 #
 # SCHOONLEECH_LIB  an archive to use instead of the proved one; rt is then not run
 
 library=${SCHOONLEECH_LIB:-target/staticlib/libgrader.a}
 
+# What is another file where the kit is another one: rt's name on the PATH, which may be a link, the file it leads to, and the kit's
+# identity, found as rt itself finds it.
+kit_files() {
+    local named real identity
+    named=$(command -v rt)
+    real=$(readlink -f "$named")
+    identity=${RATTLE_HOME:-$(dirname "$(dirname "$real")")}/KIT-ID
+    printf '%s\n' "$named" "$real"
+    [ ! -f "$identity" ] || printf '%s\n' "$identity"
+}
+
+# A crate changed when it was written. A kit's files keep the time at which it was packed, which says nothing about when it came here: of
+# them the time of change counts (the c of -newercm), which is that of their installation.
 library_is_fresh() {
-    [ -f "$library" ] && [ -z "$(find crates crates.txt -newer "$library" -print -quit)" ]
+    local newer kit
+    [ -f "$library" ] || return 1
+    mapfile -t kit < <(kit_files)
+    newer=$(find crates crates.txt -newer "$library" -print -quit && find "${kit[@]}" -newercm "$library" -print -quit) || return 1
+    [ -z "$newer" ]
 }
 
 # An archive is as old as its beginning, so that a change during the proof makes it stale.

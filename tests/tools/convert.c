@@ -13,9 +13,10 @@
 #include "../../include/schoonleech.h"
 #include "../engine/check.h"
 
-/* One byte more than is needed, so that a file that is too long is seen to be. */
-static uint32_t memory[AVM_WORDS_MOST + 1];
-static uint8_t binary[4 * AVM_WORDS_MOST + 1], text[AVM_TEXT_MOST + 1];
+static uint32_t memory[AVM_WORDS_MOST];
+
+/* A word and a byte more than may be, so that a file that is too long is seen to be. */
+static uint8_t binary[4 * AVM_WORDS_MOST + 4], text[AVM_TEXT_MOST + 1];
 
 static void give_up(const char *why, const char *name)
 {
@@ -45,15 +46,19 @@ static void save(const char *name, const uint8_t *from, size_t bytes)
         give_up("can't write", name);
 }
 
-/* Answers the number of words. */
+/* Answers the number of words. A file is never cut to fit: the calls and another tool would then not have the same image. */
 static size_t load_memory(const char *name)
 {
-    size_t words = load(name, binary, sizeof binary) / 4, word;
+    size_t size = load(name, binary, sizeof binary), word;
     const uint8_t *bytes = binary;
 
-    for (word = 0; word < words; word++, bytes += 4)
+    if (size > 4 * AVM_WORDS_MOST)
+        give_up("there is no memory as large as", name);
+    if (size % 4 != 0)
+        give_up("there is a part of a word at the end of", name);
+    for (word = 0; word < size / 4; word++, bytes += 4)
         memory[word] = (uint32_t)bytes[0] << 24 | (uint32_t)bytes[1] << 16 | (uint32_t)bytes[2] << 8 | bytes[3];
-    return words;
+    return size / 4;
 }
 
 static void save_memory(const char *name, size_t words)

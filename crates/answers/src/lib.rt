@@ -1,7 +1,7 @@
 // How the engine's calls answer: the counts of the two clocks, the end of a call with the number that
 // the grader shows, and the tests that several levels share.
 ghost use mathlib.Core.Path.{_≡_};
-ghost use Rattle.answers.specs.Ends.{is-done, shown};
+ghost use Rattle.answers.specs.Ends.{is-done, numbered, shown};
 
 pub mod tests;
 
@@ -46,61 +46,37 @@ pub struct Numbered {
     pub at: u64,
 }
 
+fn with(number: u64, at: usize) -> Numbered
+    ensures { λ r. ⌜ r ≡ numbered number at ⌝ }
+{
+    Numbered {
+        number: number,
+        at: at as u64,
+    }
+}
+
 pub fn shown(end: End) -> Numbered
     ensures { λ r. ⌜ r ≡ shown end ⌝ }
 {
     match end {
-        End::Done => Numbered { number: 0, at: 0 },
-        End::MemoryLength => Numbered { number: 1, at: 0 },
-        End::RegisterZero => Numbered { number: 3, at: 0 },
-        End::ProgramLength => Numbered { number: 4, at: 0 },
-        End::Microword(word) => Numbered {
-            number: 5,
-            at: word as u64,
-        },
-        End::Outside => Numbered { number: 6, at: 0 },
-        End::Request(place) => Numbered {
-            number: 7,
-            at: place as u64,
-        },
-        End::NextAddress => Numbered { number: 8, at: 0 },
-        End::TextLength => Numbered { number: 9, at: 0 },
-        End::LineForm(line) => Numbered {
-            number: 10,
-            at: line as u64,
-        },
-        End::LineSum(line) => Numbered {
-            number: 11,
-            at: line as u64,
-        },
-        End::RecordType(line) => Numbered {
-            number: 12,
-            at: line as u64,
-        },
-        End::Placement(line) => Numbered {
-            number: 13,
-            at: line as u64,
-        },
-        End::EndRecord(line) => Numbered {
-            number: 14,
-            at: line as u64,
-        },
-        End::RecordOrder(line) => Numbered {
-            number: 15,
-            at: line as u64,
-        },
-        End::Room(bytes) => Numbered {
-            number: 16,
-            at: bytes as u64,
-        },
-        End::WalkLeaves(word) => Numbered {
-            number: 17,
-            at: word as u64,
-        },
-        End::WalkNotBack(word) => Numbered {
-            number: 18,
-            at: word as u64,
-        },
+        End::Done => with(0, 0),
+        End::MemoryLength => with(1, 0),
+        End::RegisterZero => with(3, 0),
+        End::ProgramLength => with(4, 0),
+        End::Microword(word) => with(5, word),
+        End::Outside => with(6, 0),
+        End::Request(place) => with(7, place),
+        End::NextAddress => with(8, 0),
+        End::TextLength => with(9, 0),
+        End::LineForm(line) => with(10, line),
+        End::LineSum(line) => with(11, line),
+        End::RecordType(line) => with(12, line),
+        End::Placement(line) => with(13, line),
+        End::EndRecord(line) => with(14, line),
+        End::RecordOrder(line) => with(15, line),
+        End::Room(bytes) => with(16, bytes),
+        End::WalkLeaves(word) => with(17, word),
+        End::WalkNotBack(word) => with(18, word),
     }
 }
 

@@ -1,2 +1,3 @@
--- Laws over the definitions; the proofs of the functions stand in their folders.
+-- Laws over the definitions, a file each; the proofs of the functions stand in their folders.
 pub mod ImageCases
+pub mod Printed

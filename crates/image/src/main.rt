@@ -1,28 +1,16 @@
 // The image program: 16 zero words, HEX from standard input, and the image of memory on standard
-// output; or one line with the number and the line of the refusal. It takes at most 65,536 bytes.
+// output; or one line with the number and the line of the refusal.
 ghost use mathlib.Core.Path.{_≡_};
-ghost use Rattle.image.specs.Image.{zeros, image-answer, image-room};
+ghost use Rattle.image.specs.Image.{image-answer, image-room};
 use answers::End;
 use libc::STDIN_FILENO;
 use libc::STDOUT_FILENO;
 
 fn main() {
-    let mut text = io::large_buffer();
+    // one byte more than the longest input, so that a longer one is seen
+    let mut text = [0u8; 65537];
     let read = io::read_full(STDIN_FILENO, &mut text);
-    if is_longer(read) {
-        show_refusal(End::TextLength);
-        return;
-    }
     show(&text[..read]);
-}
-
-// Whether a full buffer was not all of the input.
-fn is_longer(read: usize) -> bool {
-    if read < 65536 {
-        return false;
-    }
-    let mut one = [0u8; 1];
-    io::read_full(STDIN_FILENO, &mut one) != 0
 }
 
 fn show(text: &[u8]) {
@@ -39,6 +27,9 @@ fn show(text: &[u8]) {
 fn image(text: &[u8], room: &mut [u8]) -> End
     ensures { λ r. ⌜ (r ≡ image-answer (now (text .entry))) × (now (room .exit) ≡ image-room (now (text .entry)) (now (room .entry))) ⌝ }
 {
+    if 65536 < text.len() {
+        return End::TextLength;
+    }
     let mut memory = [0u32; 16];
     let end = image_reader::read(&mut memory, text);
     if !answers::done(end) {

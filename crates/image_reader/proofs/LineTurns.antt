@@ -1,9 +1,9 @@
 -- One turn of the two loops over the lines, and of the loop over a record's words.
-use Prim.Native.Nat.{ℕ, zero, suc, _+_, _-_, _<_, _≤_}
+use Prim.Native.Nat.{ℕ, suc, _+_, _-_, _<_, _≤_}
 use native.Mathlib.Numerals.{add-one}
 use native.Mathlib.Omega.{arith}
-use mathlib.Core.Path.{_≡_, refl, sym, ap, _∙_}
-use mathlib.Core.List.{List, [], _∷_, foldl}
+use mathlib.Core.Path.{_≡_, sym, ap, _∙_}
+use mathlib.Core.List.{List, foldl}
 use lib.ListN.{length, take, drop, set, drop-of-length-le}
 use lib.Seq.{sets, drop-drop}
 use Rattle.images.specs.declared.Reading.{Reading}
@@ -16,12 +16,14 @@ use Rattle.records.proofs.FirstLine.{line-and-rest}
 -- ---- lines
 
 module _ (text : List ℕ) (at : ℕ) (inside : at < length text) {end : ℕ} (e : end ≡ at + line-length (drop at text)) where
-  pub line-read : (m lines : ℕ) (reading : Reading) {after : Reading} → after ≡ next m (lines + 1) reading (take (end - at) (drop at text)) →
+  pub line-read : (m lines : ℕ) (reading : Reading) {after : Reading} → after ≡ next m (lines + 1) reading
+      (take (end - at) (drop at text)) →
       read-lines m lines reading (lines-of (drop at text)) ≡ read-lines m (lines + 1) after (lines-of (drop end text))
   unfolding read-lines
   line-read m lines reading f =
       ap (read-lines m lines reading) (line-and-rest text at inside e)
-      ∙ ap (λ (n : ℕ). read-lines m n (next m n reading (take (end - at) (drop at text))) (lines-of (drop end text))) (sym (add-one lines))
+      ∙ ap (λ (n : ℕ). read-lines m n (next m n reading (take (end - at) (drop at text))) (lines-of (drop end text)))
+      (sym (add-one lines))
       ∙ ap (λ (r : Reading). read-lines m (lines + 1) r (lines-of (drop end text))) (sym f)
 
   pub line-stored : (memory : List ℕ) {after : List ℕ} → after ≡ with-line memory (take (end - at) (drop at text)) →

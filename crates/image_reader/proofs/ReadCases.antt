@@ -30,7 +30,8 @@ module _ (memory text : List ℕ) where
       unfolding read-answer
       text-refused long = untouched (rw (← l, upright legal h, lt-leb (length text) most-text long)) refl
 
-      module _ (short : length text ≤ most-text) {end : End} (e : end ≡ judged (length memory) text) {fine : Bool} (f : fine ≡ is-done end) where
+      module _ (short : length text ≤ most-text) {end : End} (e : end ≡ judged (length memory) text) {fine : Bool}
+          (f : fine ≡ is-done end) where
         lines-decide : read-answer memory text ≡ end
         unfolding read-answer
         lines-decide = rw (← l, upright legal h, le-leb (length text) most-text short) (sym e)

@@ -15,7 +15,8 @@ module _ (memory line : List ℕ) {heading : Heading} (h : heading ≡ heading-o
   by-heading : with-line memory line
       ≡ cond (eqb (heading .kind) data-kind) (stored memory (heading .address) (words-of (heading .count / 4) (data-of line))) memory
   by-heading =
-      ap (λ (g : Heading). cond (eqb (g .kind) data-kind) (stored memory (g .address) (words-of (g .count / 4) (data-of line))) memory) (sym h)
+      ap (λ (g : Heading). cond (eqb (g .kind) data-kind) (stored memory (g .address) (words-of (g .count / 4) (data-of line))) memory)
+      (sym h)
 
   pub nothing-stored : (heading .kind ≡ data-kind → ⊥) → with-line memory line ≡ memory
   nothing-stored n = by-heading ∙ rw (ne-eqb (heading .kind) data-kind n)

@@ -1,7 +1,10 @@
 -- The tests of one line, case by case.
 use Prim.Native.Nat.{ℕ, _+_}
-use mathlib.Core.Path.{_≡_, sym, _∙_}
+use mathlib.Core.Path.{_≡_, sym}
+use mathlib.Core.Bool.{true, false, not, _&&_}
+use lib.Dec.{eqb}
 use borrow.Author.Tests.{eq-eqb, ne-eqb}
+use Rattle.words.proofs.Cases.{turned, upright}
 use Rattle.answers.specs.declared.End.the-variants.{LineSum, RecordType, Placement}
 use Rattle.placing.specs.Placing.{placing}
 use Rattle.images.specs.declared.Line.{Line}
@@ -27,12 +30,12 @@ module _ (m number end : ℕ) {said : Line} {count address kind sum : ℕ} (e : 
       other-kind h = rw (e, eq-eqb sum 0 s, ne-eqb kind data-kind no-data, ne-eqb kind end-kind h)
 
       module _ (ends : kind ≡ end-kind) where
-        pub end-misplaced : (count + address ≡ 0 → ⊥) → tested m number end said ≡ Refused (Placement number)
+        pub end-misplaced : not (eqb count 0 && eqb address 0) ≡ true → tested m number end said ≡ Refused (Placement number)
         unfolding tested
         end-misplaced h =
-            rw (e, eq-eqb sum 0 s, ne-eqb kind data-kind no-data, eq-eqb kind end-kind ends, ne-eqb (count + address) 0 h)
+            rw (e, eq-eqb sum 0 s, ne-eqb kind data-kind no-data, eq-eqb kind end-kind ends, turned (eqb count 0 && eqb address 0) h)
 
-        pub end-read : count + address ≡ 0 → tested m number end said ≡ Ended
+        pub text-closed : not (eqb count 0 && eqb address 0) ≡ false → tested m number end said ≡ Ended
         unfolding tested
-        end-read h =
-            rw (e, eq-eqb sum 0 s, ne-eqb kind data-kind no-data, eq-eqb kind end-kind ends, eq-eqb (count + address) 0 h)
+        text-closed h =
+            rw (e, eq-eqb sum 0 s, ne-eqb kind data-kind no-data, eq-eqb kind end-kind ends, upright (eqb count 0 && eqb address 0) h)

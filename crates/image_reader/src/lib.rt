@@ -4,7 +4,7 @@ ghost use mathlib.Core.Path.{_≡_};
 ghost use Prim.Native.Nat.{_+_};
 ghost use lib.Seq.{sets};
 ghost use Rattle.images.specs.Digits.{words-of};
-ghost use Rattle.images.specs.Records.{record-of, data-of};
+ghost use Rattle.images.specs.Records.{data-of};
 ghost use Rattle.images.specs.Reading.{data-read, tested, next, finish, judged, with-line, loaded, read-answer, memory-after};
 ghost use Rattle.placing.specs.Placing.{placing};
 use answers::End;
@@ -46,7 +46,8 @@ fn test(words: usize, number: usize, end: usize, said: Line) -> Reading
             if kind != 1 {
                 return Reading::Refused(End::RecordType(number));
             }
-            if count as usize + address as usize != 0 {
+            let closes = (count == 0) & (address == 0);
+            if !closes {
                 return Reading::Refused(End::Placement(number));
             }
             Reading::Ended
@@ -134,7 +135,7 @@ fn load(memory: &mut [u32], text: &[u8])
     }
 }
 
-// Reads an image into memory, or refuses it and leaves memory as it is.
+// The whole call. No word is stored while a line is left that could be refused.
 pub fn read(memory: &mut [u32], text: &[u8]) -> End
     ensures { λ r. ⌜ (r ≡ read-answer (now (memory .entry)) (now (text .entry)))
         × (now (memory .exit) ≡ memory-after (now (memory .entry)) (now (text .entry))) ⌝ }

@@ -1,16 +1,16 @@
 -- Lines as they are stored: a line is its colon, its digits and its LF, one behind the other; and the turns of the loop over the words.
-use Prim.Native.Nat.{ℕ, zero, suc, _+_, _-_, _*_, _%_, _<_, _≤_}
+use Prim.Native.Nat.{ℕ, suc, _+_, _-_, _*_, _%_, _<_, _≤_}
 use native.Mathlib.Nat.{add-zero}
 use native.Mathlib.Numerals.{add-one}
 use native.Mathlib.Omega.{arith}
 use mathlib.Core.Path.{_≡_, refl, sym, ap, _∙_}
-use mathlib.Core.List.{List, [], _∷_, _++_, append-assoc}
+use mathlib.Core.List.{List, [], _∷_, _++_}
 use lib.ListN.{length, getD, drop, set, drop-of-length-le, length-append}
 use lib.Seq.{sets, drop-cons}
 use Rattle.images.specs.Digits.{hex, sum-of}
 use Rattle.images.specs.Lines.{lf}
 use Rattle.images.specs.Records.{colon}
-use Rattle.images.specs.Writing.{checksum, line-of, data-bytes, data-line, end-line, text-from}
+use Rattle.images.specs.Writing.{checksum, line-of, data-bytes, end-line, text-from}
 use Rattle.images.proofs.WrittenDigits.{digits-length}
 
 -- ---- one behind the other

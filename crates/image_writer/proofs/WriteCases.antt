@@ -1,6 +1,6 @@
 -- What the writer answers and what it leaves in the room, case by case.
-use Prim.Native.Nat.{ℕ, _+_, _*_, _<_, _≤_}
-use mathlib.Core.Path.{_≡_, refl, sym, ap, _∙_}
+use Prim.Native.Nat.{ℕ, _<_, _≤_}
+use mathlib.Core.Path.{_≡_, refl, sym, _∙_}
 use mathlib.Core.Bool.{Bool, true, false, not}
 use mathlib.Core.List.{List}
 use lib.ListN.{length}
@@ -8,7 +8,7 @@ use lib.Seq.{sets}
 use borrow.Author.Tests.{le-leb, lt-leb}
 use Rattle.words.specs.Lengths.{legal-length}
 use Rattle.words.proofs.Cases.{turned, upright}
-use Rattle.answers.specs.declared.End.the-variants.{Done, MemoryLength, Room}
+use Rattle.answers.specs.declared.End.the-variants.{MemoryLength, Room}
 use Rattle.answers.specs.Ends.{is-done}
 use Rattle.images.specs.declared.Written.{Written}
 use Rattle.images.specs.Writing.{written, written-text, written-length, write-answer, room-after}
@@ -30,7 +30,8 @@ module _ (memory room : List ℕ) where
       pub is-legal : legal-length (length memory) ≡ true
       is-legal = sym l ∙ upright legal h
 
-      pub room-refused : length room < written-length (length memory) → Left (record { end = Room (written-length (length memory)); bytes = 0 }) room
+      pub room-refused : length room < written-length (length memory) → Left
+          (record { end = Room (written-length (length memory)); bytes = 0 }) room
       unfolding write-answer
       room-refused short = untouched (rw (is-legal, lt-leb (written-length (length memory)) (length room) short)) refl
 

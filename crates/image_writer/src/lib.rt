@@ -20,7 +20,7 @@ fn digit(v: u8) -> u8
     v + 55
 }
 
-// One byte as it is.
+// A single character.
 fn put(room: &mut [u8], at: usize, c: u8)
     requires { ⌜ at < length (now room) ⌝ }
     ensures { λ r. ⌜ now (room .exit) ≡ set (now (room .entry)) at c ⌝ }
@@ -137,7 +137,7 @@ fn put_text(memory: &[u32], room: &mut [u8])
     put_line(room, 44 * i, &last);
 }
 
-// Writes memory's image into the room, or refuses and leaves the room as it is.
+// The whole call. The room is not touched before all is known to fit.
 pub fn write(memory: &[u32], room: &mut [u8]) -> Written
     ensures { λ r. ⌜ (r ≡ write-answer (now (memory .entry)) (now (room .entry)))
         × (now (room .exit) ≡ room-after (now (memory .entry)) (now (room .entry))) ⌝ }

@@ -1,11 +1,12 @@
--- What stays as lent: all of memory after a refused read, all of the room after a refused write, and every word that
--- no record of the text names.
+-- What stays as lent: all of memory after a refused read, all of the room after a refused write, every word that no record of the text
+-- names, and the lengths of both.
 use Prim.Native.Nat.{ℕ, zero, suc, _/_}
 use mathlib.Core.Path.{_≡_, refl, sym, ap, _∙_}
 use mathlib.Core.Bool.{Bool, true, false, false≢true, _||_, cond}
 use mathlib.Core.List.{List, [], _∷_, foldl}
 use lib.Dec.{eqb}
 use lib.ListN.{length, getD, drop}
+use lib.Seq.{sets, length-sets}
 use Rattle.answers.specs.declared.End.{End}
 use Rattle.answers.specs.declared.End.the-variants.{Done}
 use Rattle.answers.specs.Ends.{is-done}
@@ -15,8 +16,8 @@ use Rattle.placing.proofs.WordsNotNamed.{not-named-kept}
 use Rattle.images.specs.Digits.{words-of}
 use Rattle.images.specs.Lines.{lines-of}
 use Rattle.images.specs.Records.{count-of, address-of, kind-of, data-of}
-use Rattle.images.specs.Reading.{data-kind, with-line, loaded, read-answer, memory-after}
-use Rattle.images.specs.Writing.{write-answer, room-after}
+use Rattle.images.specs.Reading.{data-kind, with-line, loaded, line-names, named-in, read-answer, memory-after}
+use Rattle.images.specs.Writing.{written-text, write-answer, room-after}
 
 -- ---- refused
 
@@ -41,15 +42,7 @@ neither-of : (x y : Bool) → (x || y) ≡ false → (x ≡ false) × (y ≡ fal
 neither-of true y e = absurd (false≢true (sym e))
 neither-of false y e = (refl, e)
 
--- the words that a line names: those of a data record
-abbrev pub line-names : List ℕ → ℕ → Bool
-line-names line w = cond (eqb (kind-of line) data-kind) (names (address-of line) (count-of line) w) false
-
-abbrev pub named-in : List (List ℕ) → ℕ → Bool
-named-in [] w = false
-named-in (line ∷ lines) w = line-names line w || named-in lines w
-
-as-many : (n : ℕ) (t : List ℕ) → length (words-of n t) ≡ n
+pub as-many : (n : ℕ) (t : List ℕ) → length (words-of n t) ≡ n
 as-many zero t = refl
 as-many (suc n) t = ap suc (as-many n (drop 8 t))
 
@@ -59,7 +52,7 @@ kind-keeps : (memory words : List ℕ) (address count w : ℕ) (is-data : Bool) 
 kind-keeps memory words address count w true n e = not-named-kept memory words address count w n e
 kind-keeps memory words address count w false n e = refl
 
-line-keeps : (memory line : List ℕ) (w : ℕ) → line-names line w ≡ false → getD (with-line memory line) w 0 ≡ getD memory w 0
+pub line-keeps : (memory line : List ℕ) (w : ℕ) → line-names line w ≡ false → getD (with-line memory line) w 0 ≡ getD memory w 0
 line-keeps memory line w h =
     kind-keeps memory (words-of (count-of line / 4) (data-of line)) (address-of line) (count-of line) w (eqb (kind-of line) data-kind)
     (as-many (count-of line / 4) (data-of line)) h
@@ -78,4 +71,34 @@ words-not-named-keep-their-value memory text w h = by-answer (is-done (read-answ
   where
     by-answer : (t : Bool) → getD (cond t (loaded memory text) memory) w 0 ≡ getD memory w 0
     by-answer true = lines-keep (lines-of text) memory w h
+    by-answer false = refl
+
+-- ---- the lengths of memory and room
+
+pub line-keeps-the-length : (memory line : List ℕ) → length (with-line memory line) ≡ length memory
+line-keeps-the-length memory line = by-kind (eqb (kind-of line) data-kind)
+  where
+    by-kind : (d : Bool) → length (cond d
+        (stored memory (address-of line) (words-of (count-of line / 4) (data-of line))) memory) ≡ length memory
+    by-kind true = length-sets memory (address-of line / 4) (words-of (count-of line / 4) (data-of line))
+    by-kind false = refl
+
+lines-keep-the-length : (lines : List (List ℕ)) (memory : List ℕ) → length (foldl with-line memory lines) ≡ length memory
+lines-keep-the-length [] memory = refl
+lines-keep-the-length (line ∷ lines) memory = lines-keep-the-length lines (with-line memory line) ∙ line-keeps-the-length memory line
+
+pub memory-keeps-its-length : (memory text : List ℕ) → length (memory-after memory text) ≡ length memory
+unfolding memory-after
+memory-keeps-its-length memory text = by-answer (is-done (read-answer memory text))
+  where
+    by-answer : (t : Bool) → length (cond t (loaded memory text) memory) ≡ length memory
+    by-answer true = lines-keep-the-length (lines-of text) memory
+    by-answer false = refl
+
+pub room-keeps-its-length : (memory room : List ℕ) → length (room-after memory room) ≡ length room
+unfolding room-after
+room-keeps-its-length memory room = by-answer (is-done (write-answer memory room .end))
+  where
+    by-answer : (t : Bool) → length (cond t (sets room 0 (written-text memory)) room) ≡ length room
+    by-answer true = length-sets room 0 (written-text memory)
     by-answer false = refl

@@ -1,13 +1,12 @@
 -- What a line says, case by case.
 use Prim.Native.Nat.{ℕ, _+_, _*_, _%_}
 use mathlib.Core.Path.{_≡_}
-use mathlib.Core.Bool.{true, false, _&&_}
+use mathlib.Core.Bool.{true, false}
 use mathlib.Core.List.{List}
 use lib.Dec.{eqb}
 use lib.ListN.{getD, drop}
-use Rattle.words.proofs.Cases.{both-of}
 use Rattle.images.specs.declared.Line.the-variants.{NoRecord, Record}
-use Rattle.images.specs.Digits.{bytes-of, all-bytes, sum-of}
+use Rattle.images.specs.Digits.{all-bytes, sum-of}
 use Rattle.images.specs.Lines.{is-end}
 use Rattle.images.specs.Records.{record-of, colon, count-of, address-of, kind-of, record-bytes}
 

@@ -1,16 +1,15 @@
 -- What is written as digits reads as the bytes that were written.
-use Prim.Native.Nat.{ℕ, zero, suc, _+_, _-_, _*_, _/_, _%_, _^_, _<_, _≤_}
-use native.Mathlib.Nat.{mul-suc}
+use Prim.Native.Nat.{ℕ, suc, _+_, _*_, _/_, _%_, _^_, _<_, _≤_}
 use native.Mathlib.Omega.{arith}
-use mathlib.Core.Path.{_≡_, refl, sym, ap, _∙_}
-use mathlib.Core.Bool.{true, false, _&&_, cond}
+use mathlib.Core.Path.{_≡_, refl, ap, _∙_}
+use mathlib.Core.Bool.{true}
 use mathlib.Core.List.{List, [], _∷_, _++_}
 use mathlib.Core.Logic.{_⊎_, inl, inr}
-use lib.Dec.{eqb, leb, ltb}
+use lib.Dec.{ltb}
 use lib.ListN.{length, drop}
-use borrow.Author.Tests.{lt-ltb, le-ltb, le-leb, lt-leb, ne-eqb, ltb-true}
+use borrow.Author.Tests.{lt-ltb, le-ltb, le-leb, lt-leb, ltb-true}
 use Rattle.words.proofs.Cases.{lt-or-le, both-of}
-use Rattle.images.specs.Digits.{digit-value, paired, byte-of, bytes-of, all-bytes, word-from, word-of, digit, hex, word-bytes}
+use Rattle.images.specs.Digits.{digit-value, paired, bytes-of, all-bytes, word-from, word-of, digit, hex, word-bytes}
 
 -- ---- a digit
 
@@ -21,7 +20,14 @@ digit-read v h = by-kind (lt-or-le v 10)
     by-kind : (v < 10) ⊎ (10 ≤ v) → digit-value (digit v) ≡ v
     by-kind (inl t) = rw (lt-ltb v 10 t, le-leb 48 (v + 48) (omega arith), le-leb (v + 48) 57 (omega arith)) (omega arith)
     by-kind (inr t) =
-        rw (le-ltb v 10 t, lt-leb (v + 55) 57 (omega arith), le-leb 48 (v + 55) (omega arith), le-leb 65 (v + 55) (omega arith), le-leb (v + 55) 70 (omega arith))
+        rw (
+          le-ltb v 10 t,
+          lt-leb (v + 55) 57 (omega arith),
+          le-leb 48 (v + 55) (omega arith),
+          le-leb 65 (v + 55) (omega arith),
+          le-leb
+              (v + 55) 70 (omega arith),
+        )
         (omega arith)
 
 -- no digit is a byte below 48, so none ends a line

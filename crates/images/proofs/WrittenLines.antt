@@ -1,15 +1,14 @@
 -- A written line is cut off as a line, and is a record of the fields it was written from, with sum 0.
-use Prim.Native.Nat.{ℕ, suc, _+_, _*_, _/_, _%_, _<_, _≤_}
+use Prim.Native.Nat.{ℕ, suc, _+_, _*_, _/_, _%_, _<_}
 use native.Mathlib.Omega.{arith}
 use mathlib.Core.Path.{_≡_, refl, sym, ap, _∙_}
-use mathlib.Core.Bool.{true, false, _&&_}
+use mathlib.Core.Bool.{true, false}
 use mathlib.Core.List.{List, [], _∷_, _++_, append-assoc}
 use lib.ListN.{length, drop, length-append}
-use lib.Dec.{eqb, ltb}
-use borrow.Author.Tests.{ne-eqb, lt-ltb, ltb-true}
-use Rattle.words.proofs.Cases.{both-of}
+use lib.Dec.{eqb}
+use borrow.Author.Tests.{ne-eqb, lt-ltb}
 use Rattle.images.specs.declared.Line.the-variants.{Record}
-use Rattle.images.specs.Digits.{byte-of, bytes-of, all-bytes, sum-of, digit, hex}
+use Rattle.images.specs.Digits.{bytes-of, all-bytes, sum-of, digit, hex}
 use Rattle.images.specs.Lines.{lf, lines-of, before-first, is-end}
 use Rattle.images.specs.Records.{record-of, record-bytes, count-of, address-of, kind-of}
 use Rattle.images.specs.Writing.{checksum, line-of}

@@ -2,19 +2,18 @@
 use Prim.Native.Nat.{ℕ, suc, _+_, _*_, _/_, _%_, _^_, _<_, _≤_}
 use native.Mathlib.Omega.{arith}
 use mathlib.Core.Path.{_≡_, refl, ap, _∙_}
-use mathlib.Core.Bool.{true, _&&_, cond}
+use mathlib.Core.Bool.{true, cond}
 use lib.Dec.{eqb}
 use mathlib.Core.List.{List, [], _∷_, _++_}
 use lib.Seq.{sets}
-use Rattle.images.specs.declared.Line.{Line}
 use Rattle.images.specs.declared.Line.the-variants.{Record}
 use Rattle.images.specs.declared.Reading.the-variants.{Open, Ended}
 use Rattle.placing.specs.Placing.{stored}
 use Rattle.placing.proofs.PlacingCases.{at-its-place}
 use Rattle.images.specs.Digits.{all-bytes, word-bytes, words-of}
-use Rattle.images.specs.Records.{record-of, count-of, address-of, kind-of, data-of}
+use Rattle.images.specs.Records.{record-of, count-of, address-of, data-of}
 use Rattle.images.specs.Reading.{data-kind, tested, with-line}
-use Rattle.images.specs.Writing.{data-line, data-bytes, end-line}
+use Rattle.images.specs.Writing.{data-line, end-line}
 use Rattle.images.proofs.WrittenDigits.{all-bytes-joined, word-bytes-are, word-read}
 use Rattle.images.proofs.WrittenLines.{count-read, address-read, kind-read, record-written}
 
@@ -61,7 +60,8 @@ module _ (i w x y z : ℕ) (hi : i < 4096) (hw : w < 2 ^ 32) (hx : x < 2 ^ 32) (
   pub words-read : words-of 4 (data-of (data-line (16 * i) w x y z)) ≡ w ∷ x ∷ y ∷ z ∷ []
   words-read = λ j. word-read w hw j ∷ word-read x hx j ∷ word-read y hy j ∷ word-read z hz j ∷ []
 
-  pub words-placed : (m number : ℕ) → 4 * suc i ≤ m → tested m number (16 * i) (record-of (data-line (16 * i) w x y z)) ≡ Open (16 * suc i)
+  pub words-placed : (m number : ℕ) → 4 * suc i ≤ m → tested m number (16 * i) (record-of (data-line (16 * i) w x y z)) ≡ Open
+      (16 * suc i)
   unfolding tested
   words-placed m number h =
       rw (data-read, at-its-place m (16 * i) (16 * i) 16 (omega arith) refl (omega arith) (omega arith)) (ap Open (omega arith))

@@ -1,15 +1,15 @@
 -- Bytes as pairs of hex digits, read and written (the scope, on images: pairs of hex digits of either case; the writer's are upper case).
 -- Assumes nothing.
-use Prim.Native.Nat.{ℕ, zero, suc, _+_, _-_, _*_, _/_, _%_}
+use Prim.Native.Nat.{ℕ, zero, suc, _+_, _-_, _*_, _/_, _%_, _^_, _<_}
 use mathlib.Core.Bool.{Bool, true, _&&_, cond}
 use mathlib.Core.List.{List, [], _∷_}
 use lib.Dec.{leb, ltb}
-use lib.ListN.{drop}
+use lib.ListN.{getD, drop}
 
 abbrev between : ℕ → ℕ → ℕ → Bool
 between low high c = leb low c && leb c high
 
--- the value of a digit 0 to 9 (48 to 57), A to F (65 to 70), a to f (97 to 102); 16 of anything else
+-- what a character counts: 0 to 9 are 48 to 57 in ASCII, A to F are 65 to 70, a to f are 97 to 102; what is no digit counts 16
 unfoldable pub digit-value : ℕ → ℕ
 digit-value c =
     cond (between 48 57 c) (c - 48)
@@ -27,7 +27,7 @@ byte-of [] = 256
 byte-of (h ∷ []) = 256
 byte-of (h ∷ l ∷ t) = paired (digit-value h) (digit-value l)
 
--- the first n bytes of a text
+-- the first n bytes of a text. Here and in words-of n is how many are asked for: nothing is cut short by it
 abbrev pub bytes-of : ℕ → List ℕ → List ℕ
 bytes-of zero t = []
 bytes-of (suc n) t = byte-of t ∷ bytes-of n (drop 2 t)
@@ -40,7 +40,7 @@ abbrev pub sum-of : List ℕ → ℕ
 sum-of [] = 0
 sum-of (b ∷ bs) = b + sum-of bs
 
--- a word is four bytes, the most significant first
+-- a word is four bytes, the most significant first. Modulo 2 ^ 32 because a "byte" may be 256; of an accepted text none is
 unfoldable pub word-from : ℕ → ℕ → ℕ → ℕ → ℕ
 word-from a b c d = (16777216 * a + 65536 * b + 256 * c + d) % 4294967296
 
@@ -53,13 +53,17 @@ words-of (suc n) t = word-of t ∷ words-of n (drop 8 t)
 
 -- ---- written
 
--- the digit, upper case, of a value below 16
+-- 0 to 9, then A to F
 unfoldable pub digit : ℕ → ℕ
 digit v = cond (ltb v 10) (v + 48) (v + 55)
 
 abbrev pub hex : List ℕ → List ℕ
 hex [] = []
 hex (b ∷ bs) = digit (b / 16) ∷ digit (b % 16) ∷ hex bs
+
+-- words of 32 bits: what every lent memory holds
+abbrev pub Words : List ℕ → Type 0
+Words l = (j : ℕ) → getD l j 0 < 2 ^ 32
 
 abbrev pub word-bytes : ℕ → List ℕ
 word-bytes w = w / 16777216 ∷ w / 65536 % 256 ∷ w / 256 % 256 ∷ w % 256 ∷ []

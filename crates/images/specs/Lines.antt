@@ -1,5 +1,5 @@
--- The lines of a text (the scope, on images): a line ends with LF or CR LF, and the last may lack its end. So a text is cut behind each LF,
--- and what is left behind the last LF, if anything, is a line too. Assumes nothing.
+-- The lines of a text (the scope, on images): a line ends with LF or CR LF, and the last may lack its end. So a text is cut behind each
+-- LF, and what is left behind the last LF, if anything, is a line too. Assumes nothing.
 use Prim.Native.Nat.{ℕ}
 use mathlib.Core.Bool.{Bool, true, false, _&&_, cond}
 use mathlib.Core.List.{List, [], _∷_}

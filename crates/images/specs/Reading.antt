@@ -1,7 +1,7 @@
--- The reading of a text: the order of the tests, the fold over the lines, what is stored, and what the reader answers (the scope, on images
--- and on the numbers). Lines are counted from 1. Assumes nothing.
+-- The reading of a text: the order of the tests, the fold over the lines, what is stored, and what the reader answers (the scope, on
+-- images and on the numbers). Lines are counted from 1. Assumes nothing.
 use Prim.Native.Nat.{ℕ, suc, _+_, _/_}
-use mathlib.Core.Bool.{Bool, cond}
+use mathlib.Core.Bool.{Bool, false, _&&_, _||_, cond}
 use mathlib.Core.List.{List, [], _∷_, foldl}
 use lib.Dec.{eqb, leb}
 use lib.ListN.{length}
@@ -11,7 +11,7 @@ use Rattle.answers.specs.declared.End.the-variants.{Done, MemoryLength, TextLen
 use Rattle.answers.specs.Ends.{is-done}
 use Rattle.placing.specs.declared.Placed.{Placed}
 use Rattle.placing.specs.declared.Placed.the-variants.{Fits, Misplaced, Early}
-use Rattle.placing.specs.Placing.{placing, stored}
+use Rattle.placing.specs.Placing.{placing, names, stored}
 use Rattle.images.specs.declared.Line.{Line}
 use Rattle.images.specs.declared.Line.the-variants.{NoRecord, Record}
 use Rattle.images.specs.declared.Reading.{Reading}
@@ -33,19 +33,19 @@ end-kind = 1
 
 -- a data record: 13 and 15 are the placing's; where it fits, its data's end is the new one
 abbrev pub data-read : Placed → ℕ → ℕ → Reading
-data-read Fits line end = Open end
-data-read Misplaced line end = Refused (Placement line)
-data-read Early line end = Refused (RecordOrder line)
+data-read Fits number end = Open end
+data-read Misplaced number end = Refused (Placement number)
+data-read Early number end = Refused (RecordOrder number)
 
--- line number `line`, read when the last data ended at `end`: tested 10, 11, 12, 13, 15 in this order
+-- the line of a number, read when the last data ended at `end`: tested 10, 11, 12, 13, 15 in this order
 unfoldable pub tested : ℕ → ℕ → ℕ → Line → Reading
-tested m line end NoRecord = Refused (LineForm line)
-tested m line end (Record count address kind sum) =
+tested m number end NoRecord = Refused (LineForm number)
+tested m number end (Record count address kind sum) =
     cond (eqb sum 0)
-    (cond (eqb kind data-kind) (data-read (placing m end address count) line (address + count))
-    (cond (eqb kind end-kind) (cond (eqb (count + address) 0) Ended (Refused (Placement line)))
-    (Refused (RecordType line))))
-    (Refused (LineSum line))
+    (cond (eqb kind data-kind) (data-read (placing m end address count) number (address + count))
+    (cond (eqb kind end-kind) (cond (eqb count 0 && eqb address 0) Ended (Refused (Placement number)))
+    (Refused (RecordType number))))
+    (Refused (LineSum number))
 
 -- a line behind the end record is refused 14 without further test; what is refused stays so
 abbrev pub next : ℕ → ℕ → Reading → List ℕ → Reading
@@ -77,6 +77,14 @@ with-line memory line =
 
 abbrev pub loaded : List ℕ → List ℕ → List ℕ
 loaded memory text = foldl with-line memory (lines-of text)
+
+-- the words that lines name: those of their data records
+abbrev pub line-names : List ℕ → ℕ → Bool
+line-names line w = cond (eqb (kind-of line) data-kind) (names (address-of line) (count-of line) w) false
+
+abbrev pub named-in : List (List ℕ) → ℕ → Bool
+named-in [] w = false
+named-in (line ∷ lines) w = line-names line w || named-in lines w
 
 -- ---- the reader: 1, then 9, then the lines; memory changes where nothing is refused, and nowhere else
 

@@ -2,7 +2,7 @@
 -- address, the high byte first, one is the type, then the data and the checksum. Assumes nothing.
 use Prim.Native.Nat.{ℕ, _+_, _*_, _%_}
 use mathlib.Core.Bool.{Bool, _&&_, cond}
-use mathlib.Core.List.{List, [], _∷_}
+use mathlib.Core.List.{List}
 use lib.Dec.{eqb}
 use lib.ListN.{getD, drop}
 use Rattle.images.specs.declared.Heading.{Heading}

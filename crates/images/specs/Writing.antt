@@ -37,7 +37,8 @@ end-bytes = 0 ∷ 0 ∷ 0 ∷ 1 ∷ []
 abbrev pub end-line : List ℕ
 end-line = line-of end-bytes
 
--- the text from the ith four words on, at byte address 16 i. A legal length is a multiple of four, so fewer than four words are never left
+-- the text from the ith four words on, at byte address 16 i. A legal length is a multiple of four, so fewer than four words are never
+-- left
 unfoldable pub text-from : ℕ → List ℕ → List ℕ
 text-from i [] = end-line
 text-from i (w ∷ []) = end-line

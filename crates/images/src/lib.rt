@@ -29,12 +29,6 @@ pub enum Reading {
     Refused(End),
 }
 
-// Bytes summed up modulo 256, or one of them was no byte.
-pub enum Total {
-    Sum(u8),
-    NoByte,
-}
-
 // The writer's answer: the bytes written, 0 where it is refused.
 pub struct Written {
     pub end: End,

@@ -1,7 +1,6 @@
 -- Places at the edges of a memory of 16 words, computed.
 use mathlib.Core.Path.{_≡_, refl}
-use mathlib.Core.List.{List, [], _∷_}
-use Rattle.placing.specs.declared.Placed.{Placed}
+use mathlib.Core.List.{[], _∷_}
 use Rattle.placing.specs.declared.Placed.the-variants.{Fits, Misplaced, Early}
 use Rattle.placing.specs.Placing.{placing}
 

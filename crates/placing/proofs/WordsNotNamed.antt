@@ -2,10 +2,9 @@
 use Prim.Native.Nat.{ℕ, suc, _+_, _/_, _<_, _≤_}
 use native.Mathlib.Omega.{arith}
 use mathlib.Core.Path.{_≡_, refl, sym, _∙_}
-use mathlib.Core.Bool.{false, false≢true, _&&_}
+use mathlib.Core.Bool.{false, false≢true}
 use mathlib.Core.List.{List, [], _∷_}
 use mathlib.Core.Logic.{_⊎_, inl, inr}
-use lib.Dec.{leb, ltb}
 use lib.ListN.{length, getD, set}
 use lib.Seq.{sets, getD-set-other}
 use borrow.Author.Tests.{lt-ltb, le-leb}
@@ -29,4 +28,5 @@ not-named-kept memory words address count w n e = by-place (lt-or-le w (address 
         getD (stored memory address words) w 0 ≡ getD memory w 0
     by-place (inl before) t = below words memory (address / 4) w before
     by-place (inr from) (inr after) = above words memory (address / 4) w (omega arith)
-    by-place (inr from) (inl until) = absurd (false≢true (sym e ∙ rw (le-leb (address / 4) w from, lt-ltb w (address / 4 + count / 4) until)))
+    by-place (inr from) (inl until) = absurd
+        (false≢true (sym e ∙ rw (le-leb (address / 4) w from, lt-ltb w (address / 4 + count / 4) until)))

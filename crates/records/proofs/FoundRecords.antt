@@ -3,15 +3,15 @@ use Prim.Native.Nat.{ℕ, _+_, _*_, _%_}
 use native.Mathlib.Nat.{zero-add}
 use native.Mathlib.Omega.{arith}
 use mathlib.Core.Path.{_≡_, refl, sym, ap, _∙_}
-use mathlib.Core.Bool.{Bool, true, false, false≢true, not, cond}
+use mathlib.Core.Bool.{Bool, true, false, not, cond}
 use mathlib.Core.List.{List, [], _∷_}
 use lib.ListN.{length, getD, drop}
 use borrow.Author.Tests.{eq-eqb, ne-eqb}
 use Rattle.words.proofs.Cases.{turned, upright}
 use Rattle.images.specs.declared.Heading.{Heading}
 use Rattle.images.specs.declared.Line.the-variants.{NoRecord, Record}
-use Rattle.images.specs.declared.Total.{Total}
-use Rattle.images.specs.declared.Total.the-variants.{Sum, NoByte}
+use Rattle.records.specs.declared.Total.{Total}
+use Rattle.records.specs.declared.Total.the-variants.{Sum, NoByte}
 use Rattle.images.specs.Digits.{byte-of, bytes-of, all-bytes, sum-of}
 use Rattle.images.specs.Lines.{is-end}
 use Rattle.images.specs.Records.{colon, record-of, record-bytes, count-of, heading-of}

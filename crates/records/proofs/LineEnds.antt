@@ -3,8 +3,8 @@ use Prim.Native.Nat.{ℕ, suc, _+_, _-_, _<_, _≤_}
 use native.Mathlib.Nat.{add-zero}
 use native.Mathlib.Numerals.{add-one}
 use native.Mathlib.Omega.{arith}
-use mathlib.Core.Path.{_≡_, refl, sym, ap, _∙_}
-use mathlib.Core.Bool.{true, false, _&&_, cond}
+use mathlib.Core.Path.{_≡_, refl, ap, _∙_}
+use mathlib.Core.Bool.{true, false, _&&_}
 use mathlib.Core.List.{List, [], _∷_}
 use lib.Dec.{eqb}
 use lib.ListN.{length, getD, drop, length-drop, drop-of-length-le}
@@ -50,5 +50,6 @@ module _ (line : List ℕ) (from : ℕ) where
       ∙ ap (λ (t : List ℕ). getD line (suc from) 0 ∷ t) (drop-of-length-le line {i = suc (suc from)} (omega arith)))
       ∙ ap (λ (n : ℕ). eqb (getD line from 0) cr && eqb (getD line n 0) lf) (omega arith)
 
-  pub more-behind : (length line ≤ from → ⊥) → (length line - from ≡ 1 → ⊥) → (length line - from ≡ 2 → ⊥) → is-end (drop from line) ≡ false
+  pub more-behind : (length line ≤ from → ⊥) → (length line - from ≡ 1 → ⊥) → (length line - from ≡ 2 → ⊥) → is-end
+      (drop from line) ≡ false
   more-behind a b c = too-many (drop from line) (omega (arith, length-drop from line))

@@ -1,14 +1,13 @@
 -- The turns of a loop that sums up the bytes of a record.
-use Prim.Native.Nat.{ℕ, zero, suc, _+_, _-_, _%_, _<_, _≤_}
+use Prim.Native.Nat.{ℕ, suc, _+_, _-_, _%_, _<_, _≤_}
 use native.Mathlib.Omega.{arith}
-use mathlib.Core.Path.{_≡_, refl, sym, ap, _∙_}
-use mathlib.Core.Bool.{true, _&&_, cond}
-use mathlib.Core.List.{List, [], _∷_}
+use mathlib.Core.Path.{_≡_, sym, ap, _∙_}
+use mathlib.Core.Bool.{cond}
+use mathlib.Core.List.{List, _∷_}
 use lib.ListN.{drop}
 use lib.Seq.{drop-drop}
 use borrow.Author.Tests.{lt-ltb, le-ltb}
-use Rattle.images.specs.declared.Total.{Total}
-use Rattle.images.specs.declared.Total.the-variants.{Sum, NoByte}
+use Rattle.records.specs.declared.Total.the-variants.{Sum, NoByte}
 use Rattle.images.specs.Digits.{byte-of, bytes-of, all-bytes, sum-of}
 use Rattle.records.specs.Found.{total-of}
 

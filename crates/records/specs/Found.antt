@@ -3,8 +3,8 @@ use Prim.Native.Nat.{ℕ, suc, _+_, _%_}
 use mathlib.Core.Bool.{cond}
 use mathlib.Core.List.{List, [], _∷_}
 use lib.Dec.{eqb}
-use Rattle.images.specs.declared.Total.{Total}
-use Rattle.images.specs.declared.Total.the-variants.{Sum, NoByte}
+use Rattle.records.specs.declared.Total.{Total}
+use Rattle.records.specs.declared.Total.the-variants.{Sum, NoByte}
 use Rattle.images.specs.Digits.{all-bytes, sum-of}
 use Rattle.images.specs.Lines.{lf}
 

@@ -9,7 +9,12 @@ ghost use Rattle.images.specs.Records.{record-of, heading-of};
 ghost use Rattle.records.specs.Found.{total-of, line-length};
 use images::Heading;
 use images::Line;
-use images::Total;
+
+// Bytes summed up modulo 256, or one of them was no byte.
+pub enum Total {
+    Sum(u8),
+    NoByte,
+}
 
 // One of two numbers that are both at hand, so that the compiler needs no branch: digits and letters
 // come in no order that a processor could foresee.
@@ -19,7 +24,7 @@ fn either(first: bool, a: u16, b: u16) -> u16
     if first { a } else { b }
 }
 
-// The value of a hex digit of either case; 16 of anything else.
+// What a character counts as a hex digit; 16, which no digit does, where it is none.
 fn value(c: u8) -> u16
     ensures { λ r. ⌜ r ≡ digit-value c ⌝ }
 {
@@ -63,7 +68,7 @@ pub fn word(text: &[u8], at: u32) -> u32
 }
 
 // The bytes of a record, from the count to the checksum, summed up.
-fn total(line: &[u8], count: u16) -> Total
+fn sum_up(line: &[u8], count: u16) -> Total
     ensures { λ r. ⌜ r ≡ total-of 0 (bytes-of (count + 5) (drop 1 (now (line .entry)))) ⌝ }
 {
     let mut sum: u16 = 0;
@@ -89,11 +94,12 @@ fn ended(line: &[u8], from: usize) -> bool
         return true;
     }
     let left = line.len() - from;
+    let first = line[from];
     if left == 1 {
-        return line[from] == 10;
+        return first == 10;
     }
     if left == 2 {
-        return (line[from] == 13) & (line[from + 1] == 10);
+        return (first == 13) & (line[from + 1] == 10);
     }
     false
 }
@@ -125,7 +131,7 @@ pub fn record(line: &[u8]) -> Line
     }
     let heading = heading(line);
     let count = heading.count;
-    match total(line, count) {
+    match sum_up(line, count) {
         Total::NoByte => Line::NoRecord,
         Total::Sum(sum) => {
             if !ended(line, 11 + 2 * count as usize) {

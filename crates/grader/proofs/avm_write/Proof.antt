@@ -9,7 +9,8 @@ returns : tie.Need-returns
 returns c =
     let tested = c .before .before in let called = tested .before .before .before in
     let a = called .before .before .before .before .args in (
-      refusal-shown (a .memory .now) (a .room .now) (called .write .ensures .0) (tested .done .ensures) (c .before .if1 .taken) (c .answer-of .ensures),
+      refusal-shown (a .memory .now) (a .room .now) (called .write .ensures .0) (tested .done .ensures) (c .before .if1 .taken)
+          (c .answer-of .ensures),
       called .write .ensures .1,
     )
 

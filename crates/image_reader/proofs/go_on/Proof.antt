@@ -1,6 +1,6 @@
 -- In each arm the reading is the one that the arm names; an open one has its line tested.
 use borrow.Author.Needs.{needs}
-use mathlib.Core.Path.{_≡_, sym, ap, _∙_}
+use mathlib.Core.Path.{sym, ap, _∙_}
 use Rattle.images.specs.declared.Reading.{Reading}
 use Rattle.images.specs.declared.Line.{Line}
 use Rattle.images.specs.Reading.{next, tested}

@@ -1,12 +1,12 @@
 -- The loop's invariant: reading what is left from here is reading the whole text from the start.
 use borrow.Author.Needs.{needs}
-use Prim.Native.Nat.{_-_, _≤_, _<_}
+use Prim.Native.Nat.{_-_, _≤_}
 use native.Mathlib.Nat.{le-of-lt}
 use native.Mathlib.Omega.{arith}
-use mathlib.Core.Path.{_≡_, refl, sym, ap, _∙_}
+use mathlib.Core.Path.{_≡_, refl, sym, _∙_}
 use lib.ListN.{length, drop}
 use Rattle.images.specs.Lines.{lines-of}
-use Rattle.images.specs.Reading.{judged, read-lines, finish}
+use Rattle.images.specs.Reading.{judged, read-lines}
 use Rattle.records.proofs.FirstLine.{ends-behind, ends-inside}
 use Rattle.image_reader.proofs.LineTurns.{line-read, all-read}
 use Rattle.image_reader.proofs.judge.Statement.{statement}
@@ -25,7 +25,11 @@ loop-holds c = (refl, omega arith, omega arith)
 sub-go-on : tie.Need-sub-go-on Inv-loop μ-loop
 sub-go-on c =
     let turn = c .before .before in
-    omega (arith, ends-behind (turn .before .before .args .text .now) (turn .loop .at) (c .before .loop-test .taken) (c .line-end .ensures))
+    omega (
+      arith,
+      ends-behind (turn .before .before .args .text .now) (turn .loop .at) (c .before .loop-test .taken)
+          (c .line-end .ensures),
+    )
 
 part-go-on-start : tie.Need-part-go-on-start Inv-loop μ-loop
 part-go-on-start c =
@@ -40,14 +44,20 @@ part-go-on-end c =
 loop-less : tie.Need-loop-less Inv-loop μ-loop
 loop-less c =
     let cut = c .before .before in let turn = cut .before .before in
-    omega (arith, ends-behind (turn .before .before .args .text .now) (turn .loop .at) (cut .before .loop-test .taken) (cut .line-end .ensures), cut .before .loop-test .taken)
+    omega (
+      arith,
+      ends-behind (turn .before .before .args .text .now) (turn .loop .at) (cut .before .loop-test .taken)
+          (cut .line-end .ensures),
+      cut .before .loop-test .taken,
+    )
 
 loop-again : tie.Need-loop-again Inv-loop μ-loop
 loop-again c =
     let cut = c .before .before in let turn = cut .before .before in let a = turn .before .before .args in
     let behind = ends-behind (a .text .now) (turn .loop .at) (cut .before .loop-test .taken) (cut .line-end .ensures) in (
       turn .loop .inv .0
-          ∙ line-read (a .text .now) (turn .loop .at) (cut .before .loop-test .taken) (cut .line-end .ensures) (a .words) (turn .loop .lines) (turn .loop .reading) (c .go-on .ensures),
+          ∙ line-read (a .text .now) (turn .loop .at) (cut .before .loop-test .taken) (cut .line-end .ensures) (a .words)
+          (turn .loop .lines) (turn .loop .reading) (c .go-on .ensures),
       omega (arith, behind, turn .loop .inv .1),
       ends-inside (a .text .now) (turn .loop .at) (cut .before .loop-test .taken) (cut .line-end .ensures),
     )
@@ -56,7 +66,8 @@ returns : tie.Need-returns Inv-loop μ-loop
 returns c =
     let turn = c .before .before in let a = turn .before .before .args in
     c .end-of .ensures
-    ∙ sym (turn .loop .inv .0 ∙ all-read (a .text .now) (turn .loop .at) (omega (arith, c .before .loop-test .left)) (a .words) (turn .loop .lines) (turn .loop .reading))
+    ∙ sym (turn .loop .inv .0 ∙ all-read (a .text .now) (turn .loop .at) (omega (arith, c .before .loop-test .left)) (a .words)
+    (turn .loop .lines) (turn .loop .reading))
 
 pub judge-spec : {M : Type 1} → statement M
 judge-spec =

@@ -26,12 +26,14 @@ loop-holds c = (refl, refl, omega arith)
 sub-store-line : tie.Need-sub-store-line Inv-loop μ-loop
 sub-store-line c =
     let cut = c .before in let turn = cut .before .before in
-    le-of-lt (ends-behind (turn .before .before .before .args .text .now) (turn .loop .at) (cut .before .loop-test .taken) (cut .line-end .ensures))
+    le-of-lt (ends-behind (turn .before .before .before .args .text .now) (turn .loop .at) (cut .before .loop-test .taken)
+    (cut .line-end .ensures))
 
 part-store-line-start : tie.Need-part-store-line-start Inv-loop μ-loop
 part-store-line-start c =
     let cut = c .before in let turn = cut .before .before in
-    le-of-lt (ends-behind (turn .before .before .before .args .text .now) (turn .loop .at) (cut .before .loop-test .taken) (cut .line-end .ensures))
+    le-of-lt (ends-behind (turn .before .before .before .args .text .now) (turn .loop .at) (cut .before .loop-test .taken)
+    (cut .line-end .ensures))
 
 part-store-line-end : tie.Need-part-store-line-end Inv-loop μ-loop
 part-store-line-end c =
@@ -44,7 +46,8 @@ loop-less c =
     omega (
       arith,
       cut .before .loop-test .taken,
-      ends-behind (turn .before .before .before .args .text .now) (turn .loop .at) (cut .before .loop-test .taken) (cut .line-end .ensures),
+      ends-behind (turn .before .before .before .args .text .now) (turn .loop .at) (cut .before .loop-test .taken)
+          (cut .line-end .ensures),
     )
 
 loop-again : tie.Need-loop-again Inv-loop μ-loop
@@ -52,7 +55,8 @@ loop-again c =
     let called = c .before .before in let cut = called .before .before .before in let turn = cut .before .before in
     let text = turn .before .before .before .args .text .now in (
       turn .loop .inv .0
-          ∙ line-stored text (turn .loop .at) (cut .before .loop-test .taken) (cut .line-end .ensures) (turn .loop .memory) (called .store-line .ensures),
+          ∙ line-stored text (turn .loop .at) (cut .before .loop-test .taken) (cut .line-end .ensures) (turn .loop .memory)
+          (called .store-line .ensures),
       called .store-line .kept .0 ∙ turn .loop .inv .1,
       ends-inside text (turn .loop .at) (cut .before .loop-test .taken) (cut .line-end .ensures),
     )
@@ -62,7 +66,8 @@ returns c =
     let turn = c .before in
     sym
     (turn .loop .inv .0
-    ∙ all-stored (turn .before .before .before .args .text .now) (turn .loop .at) (omega (arith, c .loop-test .left)) (turn .loop .memory))
+    ∙ all-stored (turn .before .before .before .args .text .now) (turn .loop .at) (omega (arith, c .loop-test .left))
+    (turn .loop .memory))
 
 pub load-spec : {M : Type 1} → statement M
 load-spec =

@@ -3,8 +3,6 @@ use borrow.Author.Needs.{needs}
 use mathlib.Core.Path.{_≡_, sym, ap, _∙_}
 use Prim.Native.Nat.{ℕ, _+_}
 use Rattle.placing.specs.declared.Placed.{Placed}
-use Rattle.placing.specs.Placing.{placing}
-use Rattle.images.specs.declared.Reading.{Reading}
 use Rattle.images.specs.Reading.{data-read}
 use Rattle.image_reader.proofs.place_data.Statement.{statement}
 use Rattle.image_reader.proofs.place_data.Tie as tie

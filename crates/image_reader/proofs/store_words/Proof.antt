@@ -28,7 +28,8 @@ loop-again : tie.Need-loop-again Inv-loop μ-loop
 loop-again c =
     let called = c .before .before in let read = called .before .before in let turn = read .before .before in (
       turn .loop .inv .0
-          ∙ word-stored (turn .before .before .before .args .line .now) (turn .loop .memory) (turn .loop .to) (turn .loop .from) (turn .loop .left)
+          ∙ word-stored (turn .before .before .before .args .line .now) (turn .loop .memory) (turn .loop .to) (turn .loop .from)
+          (turn .loop .left)
           (read .before .loop-test .taken) (read .word .ensures) (called .store .ensures),
       called .store .kept .0 ∙ turn .loop .inv .1,
       omega (arith, turn .loop .inv .2, read .before .loop-test .taken),
@@ -40,7 +41,8 @@ returns c =
     let turn = c .before in
     sym
     (turn .loop .inv .0
-    ∙ no-word-left (turn .before .before .before .args .line .now) (turn .loop .memory) (turn .loop .to) (turn .loop .from) (turn .loop .left) (omega (arith, c .loop-test .left)))
+    ∙ no-word-left (turn .before .before .before .args .line .now) (turn .loop .memory) (turn .loop .to) (turn .loop .from)
+    (turn .loop .left) (omega (arith, c .loop-test .left)))
 
 pub store-words-spec : {M : Type 1} → statement M
 store-words-spec =

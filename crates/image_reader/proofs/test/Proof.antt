@@ -2,7 +2,7 @@
 use borrow.Author.Needs.{needs}
 use mathlib.Core.Path.{sym, ap}
 use Rattle.images.specs.Reading.{tested}
-use Rattle.image_reader.proofs.TestCases.{sum-wrong, data-line, other-kind, end-misplaced, end-read}
+use Rattle.image_reader.proofs.TestCases.{sum-wrong, data-line, other-kind, end-misplaced, text-closed}
 use Rattle.image_reader.proofs.test.Statement.{statement}
 use Rattle.image_reader.proofs.test.Tie as tie
 
@@ -40,7 +40,7 @@ returns-6 : tie.Need-returns-6
 returns-6 c =
     let ends = c .before in let summed = ends .before .before in let told = summed .before .before in let a = told .before .before .args in
     sym
-    (end-read (a .words) (a .number) (a .end) (told .said .given .1) (summed .if1 .left) (ends .before .if2 .left) (ends .if3 .left)
+    (text-closed (a .words) (a .number) (a .end) (told .said .given .1) (summed .if1 .left) (ends .before .if2 .left) (ends .if3 .left)
     (c .if4 .left))
 
 pub test-spec : {M : Type 1} → statement M
@@ -53,9 +53,6 @@ test-spec =
     (λ c κs. search needs)
     returns-2
     returns-3
-    (λ c. search needs)
-    (λ c. search needs)
-    (λ c. search needs)
     returns-4
     returns-5
     returns-6)

@@ -2,7 +2,7 @@
 use borrow.Author.Needs.{needs}
 use Prim.Native.Nat.{_+_, _*_, _-_, _%_, _≤_, _<_}
 use native.Mathlib.Omega.{arith}
-use mathlib.Core.Path.{_≡_, refl, sym, ap, _∙_}
+use mathlib.Core.Path.{_≡_, refl, sym, _∙_}
 use lib.ListN.{length, drop}
 use lib.Seq.{sets}
 use Rattle.images.specs.Digits.{hex, sum-of}
@@ -34,14 +34,16 @@ add-to : tie.Need-add-to Inv-loop μ-loop
 add-to c =
     let read = c .before .before .before .before .before in let inside = read .before in let turn = inside .before in
     let begun = turn .before .before .before in
-    let short : turn .loop .to + 2 ≤ length (begun .args .room .now) = omega (arith, inside .loop-test .taken, turn .loop .inv .4, begun .pre) in
+    let short : turn .loop .to + 2 ≤ length (begun .args .room .now) = omega
+    (arith, inside .loop-test .taken, turn .loop .inv .4, begun .pre) in
     search (needs, short, begun .good .0 .1)
 
 loop-again : tie.Need-loop-again Inv-loop μ-loop
 loop-again c =
     let called = c .before .before .before in let read = called .before .before in let inside = read .before in let turn = inside .before in
     let bytes = turn .before .before .before .args .bytes .now in (
-      turn .loop .inv .0 ∙ byte-put bytes (turn .loop .k) (inside .loop-test .taken) refl (turn .loop .room) (turn .loop .to) (called .put-byte .ensures),
+      turn .loop .inv .0 ∙ byte-put bytes (turn .loop .k) (inside .loop-test .taken) refl (turn .loop .room) (turn .loop .to)
+          (called .put-byte .ensures),
       turn .loop .inv .1 ∙ byte-summed bytes (turn .loop .k) (inside .loop-test .taken) refl (turn .loop .sum) (c .summed .ensures),
       omega (arith, c .summed .ensures),
       called .put-byte .kept .0 ∙ turn .loop .inv .3,
@@ -52,7 +54,8 @@ loop-again c =
 returns : tie.Need-returns Inv-loop μ-loop
 returns c =
     let turn = c .before in let bytes = turn .before .before .before .args .bytes .now in (
-      sym (turn .loop .inv .1 ∙ all-summed bytes (turn .loop .k) (omega (arith, c .loop-test .left)) (turn .loop .sum) (turn .loop .inv .2)),
+      sym (turn .loop .inv .1 ∙ all-summed bytes (turn .loop .k) (omega (arith, c .loop-test .left)) (turn .loop .sum)
+          (turn .loop .inv .2)),
       sym (turn .loop .inv .0 ∙ all-put bytes (turn .loop .k) (omega (arith, c .loop-test .left)) (turn .loop .room) (turn .loop .to)),
     )
 

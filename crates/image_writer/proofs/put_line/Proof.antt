@@ -9,7 +9,8 @@ returns c =
     let ended = c .before .before in let checked = ended .before .before .before .before in
     let digits = checked .before .before .before .before in let begun = digits .before .before .before .before in
     let a = begun .before .before .before .before .args in
-    line-put (a .room .now) (a .bytes .now) (a .at) (begun .put .ensures) (digits .put-bytes .ensures) (checked .put-byte .ensures) (ended .put2 .ensures)
+    line-put (a .room .now) (a .bytes .now) (a .at) (begun .put .ensures) (digits .put-bytes .ensures) (checked .put-byte .ensures)
+    (ended .put2 .ensures)
 
 pub put-line-spec : {M : Type 1} → statement M
 put-line-spec =

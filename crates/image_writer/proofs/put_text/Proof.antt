@@ -2,7 +2,7 @@
 use borrow.Author.Needs.{needs}
 use Prim.Native.Nat.{ℕ, _+_, _*_, _-_, _%_, _≤_, _<_}
 use native.Mathlib.Omega.{arith}
-use mathlib.Core.Path.{_≡_, refl, sym, ap, _∙_}
+use mathlib.Core.Path.{_≡_, refl, sym, _∙_}
 use lib.ListN.{length, drop}
 use lib.Seq.{sets}
 use Rattle.images.specs.Writing.{text-from, written-text}
@@ -38,7 +38,8 @@ four-words-requires c κs = let turn = c .before in let begun = turn .before .be
 
 mul-put-line : tie.Need-mul-put-line Inv-loop μ-loop
 mul-put-line c = let turn = c .before .before .before in
-    let short : 44 * turn .loop .i ≤ 200000 = omega (arith, turn .loop .inv .2, turn .before .before .before .pre .1) in search (needs, short)
+    let short : 44 * turn .loop .i ≤ 200000 = omega (arith, turn .loop .inv .2, turn .before .before .before .pre .1) in search
+    (needs, short)
 
 put-line-requires : tie.Need-put-line-requires Inv-loop μ-loop
 put-line-requires c κs =
@@ -53,7 +54,8 @@ put-line-requires c κs =
 
 add-i : tie.Need-add-i Inv-loop μ-loop
 add-i c = let turn = c .before .before .before .before .before .before .before in
-    let short : turn .loop .i + 1 ≤ 20000 = omega (arith, turn .loop .inv .2, turn .before .before .before .pre .1) in search (needs, short)
+    let short : turn .loop .i + 1 ≤ 20000 = omega (arith, turn .loop .inv .2, turn .before .before .before .pre .1) in search
+    (needs, short)
 
 loop-less : tie.Need-loop-less Inv-loop μ-loop
 loop-less c = omega (arith, c .before .before .before .before .before .before .loop-test .taken)
@@ -64,14 +66,16 @@ loop-again c =
     let turn = inside .before in let begun = turn .before .before .before in
     let left = four-left (turn .loop .i) (length (begun .args .memory .now)) (inside .loop-test .taken) (begun .pre .0) in (
       turn .loop .inv .0
-          ∙ words-put (begun .args .memory .now) (turn .loop .i) left (turn .loop .room) (made .four-words .ensures) (called .put-line .ensures),
+          ∙ words-put (begun .args .memory .now) (turn .loop .i) left (turn .loop .room) (made .four-words .ensures)
+          (called .put-line .ensures),
       called .put-line .kept .0 ∙ turn .loop .inv .1,
       omega (arith, left),
     )
 
 mul-put-line-2 : tie.Need-mul-put-line-2 Inv-loop μ-loop
 mul-put-line-2 c = let turn = c .before .before in
-    let short : 44 * turn .loop .i ≤ 200000 = omega (arith, turn .loop .inv .2, turn .before .before .before .pre .1) in search (needs, short)
+    let short : 44 * turn .loop .i ≤ 200000 = omega (arith, turn .loop .inv .2, turn .before .before .before .pre .1) in search
+    (needs, short)
 
 put-line-requires-2 : tie.Need-put-line-requires-2 Inv-loop μ-loop
 put-line-requires-2 c κs = let turn = c .before .before .before in
@@ -82,7 +86,8 @@ returns c =
     let called = c .before .before in let done = called .before .before .before in let turn = done .before in
     sym
     (turn .loop .inv .0
-    ∙ end-put (turn .before .before .before .args .memory .now) (turn .loop .room) (turn .loop .i) (done .loop-test .left) (called .put-line2 .ensures))
+    ∙ end-put (turn .before .before .before .args .memory .now) (turn .loop .room) (turn .loop .i) (done .loop-test .left)
+    (called .put-line2 .ensures))
 
 pub put-text-spec : {M : Type 1} → statement M
 put-text-spec =

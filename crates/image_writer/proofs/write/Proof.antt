@@ -41,7 +41,8 @@ returns-3 : tie.Need-returns-3
 returns-3 c =
     let called = c .before .before in let fits = called .before .before in
     let tested = fits .before .before in let a = tested .before .before .before .args in
-    all-written (a .memory .now) (a .room .now) (tested .legal .ensures) (fits .before .if1 .left) (fits .if2 .left) (called .put-text .ensures)
+    all-written (a .memory .now) (a .room .now) (tested .legal .ensures) (fits .before .if1 .left) (fits .if2 .left)
+    (called .put-text .ensures)
 
 pub write-spec : {M : Type 1} → statement M
 write-spec =

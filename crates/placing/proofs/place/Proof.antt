@@ -18,11 +18,13 @@ returns-3 c = let whole = c .before .before in let a = whole .before .args in
 
 returns-4 : tie.Need-returns-4
 returns-4 c = let inside = c .before in let whole = inside .before .before in let a = whole .before .args in
-    sym (before-the-end (a .words) (a .end) (a .address) (a .count) (whole .if1 .left) (inside .before .if2 .left) (inside .if3 .left) (c .if4 .taken))
+    sym (before-the-end (a .words) (a .end) (a .address) (a .count) (whole .if1 .left) (inside .before .if2 .left) (inside .if3 .left)
+    (c .if4 .taken))
 
 returns-5 : tie.Need-returns-5
 returns-5 c = let inside = c .before in let whole = inside .before .before in let a = whole .before .args in
-    sym (at-its-place (a .words) (a .end) (a .address) (a .count) (whole .if1 .left) (inside .before .if2 .left) (inside .if3 .left) (c .if4 .left))
+    sym (at-its-place (a .words) (a .end) (a .address) (a .count) (whole .if1 .left) (inside .before .if2 .left) (inside .if3 .left)
+    (c .if4 .left))
 
 pub place-spec : {M : Type 1} → statement M
 place-spec = tie.close (tie.spec returns returns-2 (λ c. search needs) returns-3 returns-4 returns-5)

@@ -17,19 +17,22 @@ returns-3 : tie.Need-returns-3
 returns-3 c =
     let low = c .before in let high = low .before .before in let long = high .before .before in
     let a = long .before .before .before .args in
-    sym (high-is-no-digit (a .text .now) (a .at) (omega (arith, long .if2 .left, long .before .if1 .left)) (high .value .ensures) (low .value2 .ensures) (c .if3 .taken))
+    sym (high-is-no-digit (a .text .now) (a .at) (omega (arith, long .if2 .left, long .before .if1 .left)) (high .value .ensures)
+    (low .value2 .ensures) (c .if3 .taken))
 
 returns-4 : tie.Need-returns-4
 returns-4 c =
     let low = c .before .before in let high = low .before .before in let long = high .before .before in
     let a = long .before .before .before .args in
-    sym (low-is-no-digit (a .text .now) (a .at) (omega (arith, long .if2 .left, long .before .if1 .left)) (high .value .ensures) (low .value2 .ensures) (c .if4 .taken))
+    sym (low-is-no-digit (a .text .now) (a .at) (omega (arith, long .if2 .left, long .before .if1 .left)) (high .value .ensures)
+    (low .value2 .ensures) (c .if4 .taken))
 
 returns-5 : tie.Need-returns-5
 returns-5 c =
     let low = c .before .before in let high = low .before .before in let long = high .before .before in
     let a = long .before .before .before .args in
-    sym (two-digits (a .text .now) (a .at) (omega (arith, long .if2 .left, long .before .if1 .left)) (high .value .ensures) (low .value2 .ensures) (c .before .if3 .left) (c .if4 .left))
+    sym (two-digits (a .text .now) (a .at) (omega (arith, long .if2 .left, long .before .if1 .left)) (high .value .ensures)
+    (low .value2 .ensures) (c .before .if3 .left) (c .if4 .left))
 
 pub byte-spec : {M : Type 1} → statement M
 byte-spec =

@@ -7,7 +7,8 @@ use Rattle.records.proofs.heading.Tie as tie
 returns : tie.Need-returns
 returns c =
     let low = c .before in let high = low .before in let count = high .before in
-    heading-found (count .before .before .args .line .now) (count .byte .ensures) (high .byte2 .ensures) (low .byte3 .ensures) (c .byte4 .ensures)
+    heading-found (count .before .before .args .line .now) (count .byte .ensures) (high .byte2 .ensures) (low .byte3 .ensures)
+    (c .byte4 .ensures)
 
 pub heading-spec : {M : Type 1} → statement M
 heading-spec =

@@ -17,14 +17,14 @@ returns-3 c =
     let read = all .before in let starts = read .before in
     sym
     (end-missing (starts .before .before .before .before .args .line .now) (starts .if2 .left) (read .heading .ensures)
-    (all .total .ensures) (summed .sum .given .1) (behind .ended .ensures) (c .if3 .taken))
+    (all .sum-up .ensures) (summed .sum .given .1) (behind .ended .ensures) (c .if3 .taken))
 
 returns-4 : tie.Need-returns-4
 returns-4 c =
     let all = c .before .before in let read = all .before in let starts = read .before in
     sym
     (byte-missing (starts .before .before .before .before .args .line .now) (starts .if2 .left) (read .heading .ensures)
-    (all .total .ensures) (c .enum-told .given .1))
+    (all .sum-up .ensures) (c .enum-told .given .1))
 
 returns-5 : tie.Need-returns-5
 returns-5 c =
@@ -32,7 +32,7 @@ returns-5 c =
     let read = all .before in let starts = read .before in
     sym
     (whole-record (starts .before .before .before .before .args .line .now) (starts .if2 .left) (read .heading .ensures)
-    (all .total .ensures) (summed .sum .given .1) (behind .ended .ensures) (c .if3 .left))
+    (all .sum-up .ensures) (summed .sum .given .1) (behind .ended .ensures) (c .if3 .left))
 
 pub record-spec : {M : Type 1} → statement M
 record-spec =

@@ -7,8 +7,8 @@ use lib.ListN.{drop}
 use Rattle.images.specs.Digits.{bytes-of}
 use Rattle.records.specs.Found.{total-of}
 use Rattle.records.proofs.Totals.{no-byte, one-added, all-added}
-use Rattle.records.proofs.total.Statement.{statement}
-use Rattle.records.proofs.total.Tie as tie
+use Rattle.records.proofs.sum_up.Statement.{statement}
+use Rattle.records.proofs.sum_up.Tie as tie
 
 abbrev Inv-loop : tie.InvT-loop
 Inv-loop line count sum₀ at₀ left₀ sum at left =
@@ -27,13 +27,15 @@ returns c =
     let read = c .before in let inside = read .before in let turn = inside .before in
     sym
     (turn .loop .inv .0
-    ∙ no-byte (turn .before .before .args .line .now) (turn .loop .at) (turn .loop .left) (inside .loop-test .taken) (read .byte .ensures) (turn .loop .sum) (c .if1 .taken))
+    ∙ no-byte (turn .before .before .args .line .now) (turn .loop .at) (turn .loop .left) (inside .loop-test .taken)
+    (read .byte .ensures) (turn .loop .sum) (c .if1 .taken))
 
 loop-again : tie.Need-loop-again Inv-loop μ-loop
 loop-again c =
     let read = c .before in let inside = read .before in let turn = inside .before in (
       turn .loop .inv .0
-          ∙ one-added (turn .before .before .args .line .now) (turn .loop .at) (turn .loop .left) (inside .loop-test .taken) (read .byte .ensures) (turn .loop .sum) (c .if1 .left),
+          ∙ one-added (turn .before .before .args .line .now) (turn .loop .at) (turn .loop .left) (inside .loop-test .taken)
+          (read .byte .ensures) (turn .loop .sum) (c .if1 .left),
       omega arith,
       omega (arith, turn .loop .inv .2, inside .loop-test .taken),
     )
@@ -43,10 +45,11 @@ returns-2 c =
     let turn = c .before in
     sym
     (turn .loop .inv .0
-    ∙ all-added (turn .loop .sum) (turn .loop .left) (drop (turn .loop .at) (turn .before .before .args .line .now)) (omega (arith, c .loop-test .left)) (turn .loop .inv .1))
+    ∙ all-added (turn .loop .sum) (turn .loop .left) (drop (turn .loop .at) (turn .before .before .args .line .now))
+    (omega (arith, c .loop-test .left)) (turn .loop .inv .1))
 
-pub total-spec : {M : Type 1} → statement M
-total-spec =
+pub sum-up-spec : {M : Type 1} → statement M
+sum-up-spec =
     tie.close
     (tie.spec
     Inv-loop
