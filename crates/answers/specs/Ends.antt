@@ -1,6 +1,6 @@
 -- The scope's numbers for the ends of the calls, with what goes with each: for 5, 17 and 18 the word and for 7 the place, counted from 0;
--- for 10 to 15 the line, counted from 1, with 0 for 9; for 16 the bytes needed. Number 2 is not among them:
--- only the C calls are lent registers as a list. Assumes nothing.
+-- for 10 to 15 the line, counted from 1, where 14 without an end record has the number of lines; for 16 the bytes needed. Number 2 is not
+-- among them: only the C calls are lent registers as a list. Assumes nothing.
 use Prim.Native.Nat.{ℕ}
 use mathlib.Core.Bool.{Bool}
 use lib.Dec.{eqb}
