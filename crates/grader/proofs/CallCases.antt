@@ -18,8 +18,8 @@ use Rattle.micro_level.specs.Run.{run}
 use Rattle.macro_level.specs.declared.machine.MacroState.{MacroState}
 use Rattle.macro_level.specs.declared.run.MacroAnswer.{MacroAnswer}
 use Rattle.macro_level.specs.Run.{run as macro-run}
-use Rattle.grader.specs.declared.Answer.{Answer}
-use Rattle.grader.specs.Answers.{refused, answered}
+use Rattle.calls.specs.declared.Answer.{Answer}
+use Rattle.calls.specs.Answers.{refused, answered}
 use Rattle.grader.specs.Calls.{register-count, micro-state, state-words, found, avm-run, macro-state, macro-words, avm-steps}
 use Rattle.grader.specs.Calls.{phase-state, phase-words, latch-words, phase-found, uncounted, avm-phase}
 

@@ -2,5 +2,3 @@
 pub mod ElementwiseCopy
 pub mod CallCases
 pub mod AsLent
-pub mod OneCheckFits
-pub mod ImageCalls

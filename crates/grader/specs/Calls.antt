@@ -15,8 +15,8 @@ use Rattle.micro_level.specs.declared.machine.MicroState.{MicroState}
 use Rattle.micro_level.specs.Run.{MicroCalled, run}
 use Rattle.macro_level.specs.declared.machine.MacroState.{MacroState}
 use Rattle.macro_level.specs.Run.{MacroCalled, run as macro-run}
-use Rattle.grader.specs.declared.Answer.{Answer}
-use Rattle.grader.specs.Answers.{refused, answered}
+use Rattle.calls.specs.declared.Answer.{Answer}
+use Rattle.calls.specs.Answers.{refused, answered}
 
 -- registers that a call is lent
 abbrev pub register-count : ℕ

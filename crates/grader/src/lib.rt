@@ -7,55 +7,18 @@ ghost use Rattle.phases.specs.Phases.{word-at};
 ghost use Rattle.published.specs.Listing.{published};
 ghost use Rattle.images.specs.Reading.{memory-after};
 ghost use Rattle.images.specs.Writing.{room-after};
-ghost use Rattle.grader.specs.Answers.{refused, answered};
-ghost use Rattle.grader.specs.Checks.{CheckAnswer};
-ghost use Rattle.grader.specs.Images.{avm-read, avm-write};
+ghost use Rattle.calls.specs.Checks.{CheckAnswer};
+ghost use Rattle.calls.specs.Images.{avm-read, avm-write};
 ghost use Rattle.grader.specs.Calls.{micro-state, state-words, found, avm-run, macro-state, macro-words, avm-steps};
 ghost use Rattle.grader.specs.Calls.{phase-state, phase-words, latch-words, phase-found, avm-phase};
-use answers::End;
 use answers::Microcycles;
 use answers::Steps;
+use calls::Answer;
+use calls::answer_of;
+use calls::refuse;
 use macro_level::machine::MacroState;
 use micro_level::machine::MicroState;
 use phase_level::machine::PhaseState;
-
-// avm_answer of the header.
-#[repr(C)]
-pub struct Answer {
-    pub number: u64,
-    pub at: u64,
-    pub microcycles: Microcycles,
-    pub steps: Steps,
-}
-
-// A refusal that has nothing with it.
-fn refuse(number: u64) -> Answer
-    ensures { λ r. ⌜ r ≡ refused number ⌝ }
-{
-    let microcycles = Microcycles { count: 0 };
-    let steps = Steps { count: 0 };
-    Answer {
-        number: number,
-        at: 0,
-        microcycles: microcycles,
-        steps: steps,
-    }
-}
-
-// An end by its number, with the two clocks.
-fn answer_of(end: End, microcycles: Microcycles, steps: Steps) -> Answer
-    ensures { λ r. ⌜ r ≡ answered end microcycles steps ⌝ }
-{
-    let shown = answers::shown(end);
-    let number = shown.number;
-    let at = shown.at;
-    Answer {
-        number: number,
-        at: at,
-        microcycles: microcycles,
-        steps: steps,
-    }
-}
 
 // The registers as a value.
 fn take_registers(from: &[u32]) -> [u32; 32]
@@ -225,17 +188,6 @@ pub extern "C" fn avm_steps(
     answer_of(end, microcycles, steps)
 }
 
-#[no_mangle]
-pub extern "C" fn avm_check(program: &[u64]) -> Answer
-    ensures { λ r. ⌜ CheckAnswer (now (program .entry)) r ⌝ }
-{
-    let checked = checker::check(program);
-    let end = checked.end;
-    let longest = checked.longest;
-    let none = Steps { count: 0 };
-    answer_of(end, longest, none)
-}
-
 // The published microprogram's word at an address modulo 64.
 #[no_mangle]
 pub extern "C" fn avm_published(address: u64) -> u64
@@ -285,36 +237,25 @@ pub extern "C" fn avm_phase(
     answer_of(end, microcycles, steps)
 }
 
-// Reads an image into memory.
+#[no_mangle]
+pub extern "C" fn avm_check(program: &[u64]) -> Answer
+    ensures { λ r. ⌜ CheckAnswer (now (program .entry)) r ⌝ }
+{
+    calls::check(program)
+}
+
 #[no_mangle]
 pub extern "C" fn avm_read(memory: &mut [u32], text: &[u8]) -> Answer
     ensures { λ r. ⌜ (r ≡ avm-read (now (memory .entry)) (now (text .entry)))
         × (now (memory .exit) ≡ memory-after (now (memory .entry)) (now (text .entry))) ⌝ }
 {
-    let end = image_reader::read(memory, text);
-    let microcycles = Microcycles { count: 0 };
-    let steps = Steps { count: 0 };
-    answer_of(end, microcycles, steps)
+    calls::read(memory, text)
 }
 
-// Writes memory's image into the room.
 #[no_mangle]
 pub extern "C" fn avm_write(memory: &[u32], room: &mut [u8]) -> Answer
     ensures { λ r. ⌜ (r ≡ avm-write (now (memory .entry)) (now (room .entry)))
         × (now (room .exit) ≡ room-after (now (memory .entry)) (now (room .entry))) ⌝ }
 {
-    let written = image_writer::write(memory, room);
-    let end = written.end;
-    let bytes = written.bytes;
-    let microcycles = Microcycles { count: 0 };
-    let steps = Steps { count: 0 };
-    if !answers::done(end) {
-        return answer_of(end, microcycles, steps);
-    }
-    Answer {
-        number: 0,
-        at: bytes as u64,
-        microcycles: microcycles,
-        steps: steps,
-    }
+    calls::write(memory, room)
 }

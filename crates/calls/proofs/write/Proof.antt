@@ -1,9 +1,9 @@
 -- The writer's answer, shown: with the bytes written, or with what goes with the refusal.
 use borrow.Author.Needs.{needs}
 use mathlib.Core.Path.{refl}
-use Rattle.grader.proofs.ImageCalls.{refusal-shown, writing-shown}
-use Rattle.grader.proofs.avm_write.Statement.{statement}
-use Rattle.grader.proofs.avm_write.Tie as tie
+use Rattle.calls.proofs.ImageCalls.{refusal-shown, writing-shown}
+use Rattle.calls.proofs.write.Statement.{statement}
+use Rattle.calls.proofs.write.Tie as tie
 
 returns : tie.Need-returns
 returns c =
@@ -22,8 +22,8 @@ returns-2 c =
       called .write .ensures .1,
     )
 
-pub avm-write-spec : {M : Type 1} → statement M
-avm-write-spec =
+pub write-spec : {M : Type 1} → statement M
+write-spec =
     tie.close
     (tie.spec
     (λ c κs. search needs)

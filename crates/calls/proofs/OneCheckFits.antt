@@ -4,9 +4,9 @@ use mathlib.Core.Path.{_≡_, sym, ap, _∙_}
 use mathlib.Core.List.{List}
 use Rattle.walks.specs.declared.Checked.{Checked}
 use Rattle.walks.proofs.OneAnswerFits.{one-answer-fits}
-use Rattle.grader.specs.declared.Answer.{Answer}
-use Rattle.grader.specs.Answers.{answered}
-use Rattle.grader.specs.Checks.{CheckAnswer}
+use Rattle.calls.specs.declared.Answer.{Answer}
+use Rattle.calls.specs.Answers.{answered}
+use Rattle.calls.specs.Checks.{CheckAnswer}
 
 pub one-check-fits : (program : List ℕ) {r s : Answer} → CheckAnswer program r → CheckAnswer program s → r ≡ s
 one-check-fits program a b =

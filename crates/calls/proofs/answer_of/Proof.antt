@@ -1,7 +1,7 @@
 -- Number and value are what the call ensures.
 use borrow.Author.Needs.{needs}
-use Rattle.grader.proofs.answer_of.Statement.{statement}
-use Rattle.grader.proofs.answer_of.Tie as tie
+use Rattle.calls.proofs.answer_of.Statement.{statement}
+use Rattle.calls.proofs.answer_of.Tie as tie
 
 returns : tie.Need-returns
 returns c = rw (c .shown .ensures)

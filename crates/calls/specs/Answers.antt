@@ -5,7 +5,7 @@ use Rattle.answers.specs.declared.End.{End}
 use Rattle.answers.specs.declared.Microcycles.{Microcycles}
 use Rattle.answers.specs.declared.Steps.{Steps}
 use Rattle.answers.specs.Ends.{shown}
-use Rattle.grader.specs.declared.Answer.{Answer}
+use Rattle.calls.specs.declared.Answer.{Answer}
 
 abbrev pub refused : ℕ → Answer
 refused number = record { number = number; at = 0; microcycles = record { count = 0 }; steps = record { count = 0 } }
