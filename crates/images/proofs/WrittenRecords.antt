@@ -19,12 +19,12 @@ use Rattle.images.proofs.WrittenLines.{count-read, address-read, kind-r
 
 -- ---- the end record
 
-pub end-read : record-of end-line ≡ Record 0 0 1 0
-end-read = record-written 0 0 0 1 [] refl (omega arith) (omega arith) (omega arith) (omega arith) refl
+pub end-said : record-of end-line ≡ Record 0 0 1 0
+end-said = record-written 0 0 0 1 [] refl (omega arith) (omega arith) (omega arith) (omega arith) refl
 
 pub text-ended : (m number end : ℕ) → tested m number end (record-of end-line) ≡ Ended
 unfolding tested
-text-ended m number end = rw end-read
+text-ended m number end = rw end-said
 
 pub nothing-stored : (memory : List ℕ) → with-line memory end-line ≡ memory
 nothing-stored memory =
@@ -52,8 +52,8 @@ module _ (i w x y z : ℕ) (hi : i < 4096) (hw : w < 2 ^ 32) (hx : x < 2 ^ 32) (
   low-lt : 16 * i % 256 < 256
   low-lt = omega arith
 
-  pub data-read : record-of (data-line (16 * i) w x y z) ≡ Record 16 (16 * i) 0 0
-  data-read =
+  pub data-said : record-of (data-line (16 * i) w x y z) ≡ Record 16 (16 * i) 0 0
+  data-said =
       record-written 16 (16 * i / 256) (16 * i % 256) 0 contents refl (omega arith) high-lt low-lt (omega arith) all-are
       ∙ ap (λ (a : ℕ). Record 16 a 0 0) two-bytes
 
@@ -64,7 +64,7 @@ module _ (i w x y z : ℕ) (hi : i < 4096) (hw : w < 2 ^ 32) (hx : x < 2 ^ 32) (
       (16 * suc i)
   unfolding tested
   words-placed m number h =
-      rw (data-read, at-its-place m (16 * i) (16 * i) 16 (omega arith) refl (omega arith) (omega arith)) (ap Open (omega arith))
+      rw (data-said, at-its-place m (16 * i) (16 * i) 16 (omega arith) refl (omega arith) (omega arith)) (ap Open (omega arith))
 
   abbrev line : List ℕ
   line = data-line (16 * i) w x y z
