@@ -5,7 +5,7 @@ use mathlib.Core.Bool.{Bool, true, cond, not, _&&_, _||_}
 use mathlib.Core.List.{List}
 use lib.Dec.{eqb}
 use Rattle.words.specs.Fields.{opcode}
-use Rattle.words.specs.Registers.{update-reg, ssp-reg}
+use Rattle.words.specs.Registers.{update-reg, is-sup-reg, ssp-reg}
 use Rattle.alu.specs.declared.Flags.{Flags}
 use Rattle.alu.specs.declared.AluOutput.{AluOutput}
 use Rattle.status.specs.declared.psw.Psw.{Psw}
@@ -35,6 +35,10 @@ psw-lines m flags =
 unfoldable pub new-psw : Microword → AluOutput → Psw → Psw
 new-psw m out psw = next-psw (psw-lines m (out .flags)) (out .value) psw
 
+-- no line into the PSW is high but its clock's
+unfoldable pub quiet : Microword → Bool
+quiet m = not (eqb (m .trgt) to-psw || (m .ssm || m .csm || m .sie || m .cie) || (m .ldv || m .ldn || m .ldc || m .ldz))
+
 unfoldable pub new-reg : ℕ → Bool → ℕ → List ℕ → ℕ → List ℕ
 new-reg trgt sm dest reg result =
     cond (eqb trgt to-reg-file) (update-reg sm dest reg result) (cond (eqb trgt to-ssp) (update-reg sm ssp-reg reg result) reg)
@@ -42,6 +46,13 @@ new-reg trgt sm dest reg result =
 -- the register that a target names; register 0, which is never written, where it names none
 unfoldable pub target-register : ℕ → ℕ → ℕ
 target-register trgt dest = cond (eqb trgt to-reg-file) dest (cond (eqb trgt to-ssp) ssp-reg 0)
+
+-- the register that a result is written to, 0 where it is written to none: what new-reg says, for a caller that keeps the registers where
+-- they are
+unfoldable pub written-register : ℕ → Bool → ℕ → ℕ
+written-register trgt sm dest =
+    let n = target-register trgt dest in
+    cond (is-sup-reg n && not sm) 0 n
 
 unfoldable pub new-mpc : Microword → ℕ → ℕ → Bool → Psw → ℕ
 new-mpc m mpc ir ireq psw = mpc-unit mpc (opcode ir) (m .addr) (m .cond) ireq (psw .ie) (psw .sm)

@@ -1,9 +1,11 @@
 // Where the result goes: the PSW, the registers, PC and MBR after a microcycle.
 ghost use mathlib.Core.Path.{_≡_};
-ghost use Rattle.datapath.specs.Results.{psw-lines, target-register, new-psw, new-reg, new-pc, new-mbr, new-system};
+ghost use Rattle.datapath.specs.Results.{psw-lines, quiet, target-register, written-register};
+ghost use Rattle.datapath.specs.Results.{new-psw, new-reg, new-pc, new-mbr, new-system, new-store};
 use alu::AluOutput;
 use alu::Flags;
 use blocks::choice::choose;
+use blocks::memory::Store;
 use microwords::microword::Microword;
 use status::psw::Change;
 use status::psw::Psw;
@@ -34,9 +36,22 @@ fn lines(word: Microword, flags: Flags) -> PswLines
     }
 }
 
+// No line into the PSW is high but its clock's: most microwords.
+fn quiet(word: Microword) -> bool
+    ensures { λ r. ⌜ r ≡ quiet word ⌝ }
+{
+    let single = word.ssm | word.csm | word.sie | word.cie;
+    let flags = word.ldv | word.ldn | word.ldc | word.ldz;
+    !((word.trgt == 2) | single | flags)
+}
+
+// The PSW stays where no line asks for a change, which is looked at first since it is quick.
 pub fn psw(word: Microword, out: AluOutput, psw: Psw) -> Psw
     ensures { λ r. ⌜ r ≡ new-psw word out psw ⌝ }
 {
+    if quiet(word) {
+        return psw;
+    }
     status::psw::next(lines(word, out.flags), out.value, psw)
 }
 
@@ -49,6 +64,15 @@ fn target_register(trgt: u32, dest: u32) -> u32
         1 => 1,
         _ => 0,
     }
+}
+
+// The register that a result is written to, by the old sm; 0 where it is written to none.
+pub fn written_register(trgt: u32, sm: bool, dest: u32) -> u32
+    ensures { λ r. ⌜ r ≡ written-register trgt sm dest ⌝ }
+{
+    let number = target_register(trgt, dest);
+    let guarded = (1 <= number) & (number <= 7) & !sm;
+    if guarded { 0 } else { number }
 }
 
 // The register file, by the old sm.
@@ -70,8 +94,11 @@ pub struct SystemRegisters {
 fn pc(trgt: u32, dest: u32, psw: Psw, result: u32, pc: u32) -> u32
     ensures { λ r. ⌜ r ≡ new-pc trgt dest psw result pc ⌝ }
 {
-    let jump = status::jump::decide(dest, psw);
-    choose((trgt == 4) | ((trgt == 5) & jump), result, pc)
+    if trgt == 5 {
+        let jump = status::jump::decide(dest, psw);
+        return choose(jump, result, pc);
+    }
+    choose(trgt == 4, result, pc)
 }
 
 // MBR: a word read goes before a result.
@@ -84,6 +111,18 @@ fn mbr(memory: &[u32], word: Microword, mar: u32, result: u32, mbr: u32) -> u32
         return blocks::memory::load(memory, mar);
     }
     choose(take, result, mbr)
+}
+
+// What goes to memory: the old MBR at MAR.
+pub fn store(word: Microword, mar: u32, mbr: u32) -> Store
+    ensures { λ r. ⌜ r ≡ new-store word mar mbr ⌝ }
+{
+    let wr = word.wr;
+    if wr {
+        Store::Word(mar, mbr)
+    } else {
+        Store::Nothing
+    }
 }
 
 // The system registers after phase four.

@@ -2,6 +2,7 @@
 pub mod RunInduction
 pub mod RunKeeps
 pub mod RunJoins
+pub mod Turns
 pub mod RunTurns
 pub mod RunTests
 pub mod RunCalls

@@ -1,3 +1,4 @@
 -- Theorems over the definitions of specs/, a file each; the proofs of the functions stand in their folders.
 pub mod FourPhases
-pub mod Cycles
+pub mod SameMicrocycle
+pub mod Performs

@@ -1,5 +1,4 @@
 -- The micro level's state: the phase level's without latches (the tuples of pp. 126-130). Assumes nothing.
-use mathlib.Core.Bool.{false}
 use Rattle.phases.specs.declared.PhaseMachine.{PhaseMachine}
 use Rattle.microcycle.specs.declared.MicroMachine.{MicroMachine}
 
@@ -15,24 +14,4 @@ seen s =
       mbr = s .mbr;
       mpc = s .mpc;
       ivec = s .ivec;
-    }
-
--- a phase state before phase one, with latches that hold nothing yet
-abbrev pub begun : MicroMachine → PhaseMachine
-begun s =
-    record {
-      registers = s .registers;
-      psw = s .psw;
-      pc = s .pc;
-      ivec = s .ivec;
-      ir = s .ir;
-      mar = s .mar;
-      mbr = s .mbr;
-      mpc = s .mpc;
-      alatch = 0;
-      blatch = 0;
-      ireq = false;
-      iack = false;
-      mir = 0;
-      phase = 0;
     }

@@ -1,8 +1,8 @@
 -- One microcycle, under the microword at MPC: the state without latches, each part's new value from the state before. It is what the micro
 -- level's own definitions (FETCH, ISSUE, .., pp. 126-130) are instances of, word by word. The request is looked at where the next address
--- is chosen. A microcycle whose next address is outside does nothing. Assumes nothing.
+-- is chosen. A microcycle whose next address is outside is not done. Assumes nothing.
 use Prim.Native.Nat.{ℕ}
-use mathlib.Core.Bool.{Bool, cond}
+use mathlib.Core.Bool.{Bool}
 use mathlib.Core.List.{List}
 use lib.Dec.{leb}
 use lib.ListN.{length}
@@ -11,13 +11,12 @@ use Rattle.status.specs.Psw.{mk-psw}
 use Rattle.microwords.specs.declared.microword.Microword.{Microword}
 use Rattle.microwords.specs.Microword.{fields}
 use Rattle.blocks.specs.declared.memory.Store.{Store}
-use Rattle.blocks.specs.Memory.{applied}
 use Rattle.blocks.specs.Sources.{a-bus, b-bus}
 use Rattle.datapath.specs.Operation.{a-input, operated}
 use Rattle.datapath.specs.Results.{new-psw, new-reg, new-mpc, new-ir, new-pc, new-mbr, mar-from-pc, new-mar, new-store}
-use Rattle.phases.specs.Phases.{interrupt, word-at}
+use Rattle.microwords.specs.ControlStore.{word-at}
+use Rattle.phases.specs.Phases.{interrupt}
 use Rattle.microcycle.specs.declared.MicroMachine.{MicroMachine}
-use Rattle.microcycle.specs.declared.Cycled.{Cycled}
 
 -- the microword at MPC, by its fields
 abbrev pub word-of : List ℕ → MicroMachine → Microword
@@ -55,11 +54,3 @@ microcycle urom mem s request =
 -- the next address is outside
 unfoldable pub leaves : List ℕ → MicroMachine → ℕ → Bool
 leaves urom s request = leb (length urom) (next-address urom s request)
-
--- done, or the state as it was
-abbrev pub cycled : List ℕ → List ℕ → MicroMachine → ℕ → Cycled
-cycled urom mem s request =
-    record { left = leaves urom s request; machine = cond (leaves urom s request) s (microcycle urom mem s request) }
-
-abbrev pub cycled-memory : List ℕ → List ℕ → MicroMachine → ℕ → List ℕ
-cycled-memory urom mem s request = cond (leaves urom s request) mem (applied (micro-store urom s) mem)

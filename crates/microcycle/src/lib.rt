@@ -1,11 +1,19 @@
-// The microcycle: four phases, or nothing where the next address is outside. Every function is total;
-// specs/ says what each answers.
+// The microcycle, by value and without the registers: the four that it may read come in as words, and
+// the one that it may write goes out as a number and a value. So no register moves but that one, and
+// whoever runs microcycles keeps the file where it stands. Every function is total; specs/ says what
+// each answers.
 ghost use mathlib.Core.Path.{_≡_};
-ghost use Rattle.microcycle.specs.Machine.{begun, seen};
-ghost use Rattle.microcycle.specs.Microcycle.{cycled, cycled-memory};
-use blocks::memory::apply;
-use phases::PhaseMachine;
+ghost use Rattle.microcycle.specs.Performing.{next-of, performed};
+use blocks::choice::choose;
+use blocks::memory::Store;
+use blocks::sources;
+use datapath::operation::operate;
+use datapath::results;
+use datapath::results::SystemRegisters;
+use microwords::microword::fields;
+use microwords::sequencer;
 use status::psw::Psw;
+use words::instruction::decode;
 
 // The state of the micro level: the phase level's without its latches, with the PSW as its six bits.
 pub struct MicroMachine {
@@ -19,74 +27,89 @@ pub struct MicroMachine {
     pub ivec: u32,
 }
 
-// The state after a microcycle; as before it where the next address would be outside.
-pub struct Cycled {
-    pub left: bool,
-    pub machine: MicroMachine,
+// The state beside the registers.
+pub struct Core {
+    pub psw: Psw,
+    pub pc: u32,
+    pub ir: u32,
+    pub mar: u32,
+    pub mbr: u32,
+    pub mpc: u32,
+    pub ivec: u32,
 }
 
-// Before phase one, with latches that hold nothing yet.
-fn begun(s: MicroMachine) -> PhaseMachine
-    ensures { λ r. ⌜ r ≡ begun s ⌝ }
-{
-    let registers = s.registers;
-    let psw = s.psw;
-    PhaseMachine {
-        registers: registers,
-        psw: psw,
-        pc: s.pc,
-        ivec: s.ivec,
-        ir: s.ir,
-        mar: s.mar,
-        mbr: s.mbr,
-        mpc: s.mpc,
-        alatch: 0,
-        blatch: 0,
-        ireq: false,
-        iack: false,
-        mir: 0,
-        phase: 0,
-    }
+// The registers that a microcycle may read: those that the instruction names, and SSP.
+pub struct Read {
+    pub srca: u32,
+    pub srcb: u32,
+    pub dest: u32,
+    pub ssp: u32,
 }
 
-// What the micro level sees of a phase state.
-fn seen(p: PhaseMachine) -> MicroMachine
-    ensures { λ r. ⌜ r ≡ seen p ⌝ }
-{
-    let registers = p.registers;
-    let psw = p.psw;
-    MicroMachine {
-        registers: registers,
-        psw: psw,
-        pc: p.pc,
-        ir: p.ir,
-        mar: p.mar,
-        mbr: p.mbr,
-        mpc: p.mpc,
-        ivec: p.ivec,
-    }
+// What a microcycle does: the new state, the register that gets the value (0, which is never written,
+// for none), and what is stored.
+pub struct Performed {
+    pub core: Core,
+    pub register: u32,
+    pub value: u32,
+    pub store: Store,
 }
 
-// The next address is looked at before anything is stored.
-pub fn cycle(program: &[u64], memory: &mut [u32], s: MicroMachine, request: u8) -> Cycled
-    ensures { λ r. ⌜ r ≡ cycled (now (program .entry)) (now (memory .entry)) s request ⌝ }
-    ensures { λ _. ⌜ now (memory .exit) ≡ cycled-memory (now (program .entry)) (now (memory .entry)) s request ⌝ }
+// Where a microword goes next, from the request and the PSW before it.
+pub fn next(word: u64, core: Core, request: u8) -> u32
+    ensures { λ r. ⌜ r ≡ next-of word core request ⌝ }
 {
-    let one = phases::one(program, begun(s), request);
-    let two = phases::two(one);
-    let three = phases::three(two);
-    let next = phases::next_address(three) as usize;
-    if program.len() <= next {
-        return Cycled {
-            left: true,
-            machine: s,
-        };
-    }
-    let four = phases::four(memory, three);
-    apply(memory, phases::store(three));
-    let after = seen(four);
-    Cycled {
-        left: false,
-        machine: after,
+    let m = fields(word);
+    let instruction = decode(core.ir);
+    let psw = core.psw;
+    let interrupt = request % 2 == 1;
+    sequencer::next_address(
+        core.mpc,
+        instruction.opcode,
+        m.addr,
+        m.cond,
+        interrupt,
+        psw.ie,
+        psw.sm,
+    )
+}
+
+// A microcycle under that microword, with its next address given.
+pub fn perform(memory: &[u32], word: u64, core: Core, read: Read, next: u32) -> Performed
+    ensures { λ r. ⌜ r ≡ performed (now (memory .entry)) word core read next ⌝ }
+{
+    let m = fields(word);
+    let instruction = decode(core.ir);
+    let dest = instruction.dest;
+    let psw = core.psw;
+    let number = status::psw::to_word(psw);
+    let a = sources::a(m.srca, read.srca, read.dest, read.ssp, number, core.pc);
+    let b = sources::b(m.srcb, read.srcb, core.ivec, instruction.imm);
+    let mar = choose(m.pmux & m.mar, core.pc, core.mar);
+    let out = operate(m, core.mbr, a, b, psw.c);
+    let result = out.value;
+    let old = SystemRegisters {
+        pc: core.pc,
+        ir: core.ir,
+        mar: mar,
+        mbr: core.mbr,
+    };
+    let system = results::system(memory, m, dest, psw, result, old);
+    let register = results::written_register(m.trgt, psw.sm, dest);
+    let store = results::store(m, mar, core.mbr);
+    let after = Core {
+        psw: results::psw(m, out, psw),
+        pc: system.pc,
+        ir: system.ir,
+        mar: system.mar,
+        mbr: system.mbr,
+        mpc: next,
+        ivec: core.ivec,
+    };
+    Performed {
+        core: after,
+        register: register,
+        value: result,
+        store: store,
     }
 }

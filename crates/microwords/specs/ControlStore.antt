@@ -1,15 +1,19 @@
--- The test of a lent control store (the scope's numbers 4 and 5). Its length is above the fetch address and at most what a 6-bit counter
+-- A lent control store: the word at an address, and its test (the scope's numbers 4 and 5). Its length is above the fetch address and at most what a 6-bit counter
 -- can name (section 5.2.2, pp. 103-110); of its words the lowest that is not legal counts. Assumes nothing.
 use Prim.Native.Nat.{ℕ, _^_}
 use mathlib.Core.Bool.{Bool, cond, not, _&&_}
 use mathlib.Core.List.{List}
 use lib.Dec.{ltb, leb}
-use lib.ListN.{length}
+use lib.ListN.{length, getD}
 use Rattle.answers.specs.declared.End.{End}
 use Rattle.answers.specs.declared.End.the-variants.{Done, ProgramLength, Microword}
 use Rattle.answers.specs.Places.{first-place}
 use Rattle.microwords.specs.Codes.{legal-microword}
 use Rattle.microwords.specs.Sequencer.{fetch-address}
+
+-- the microword at an address
+unfoldable pub word-at : List ℕ → ℕ → ℕ
+word-at urom mpc = getD urom mpc 0
 
 abbrev pub most-microwords : ℕ
 most-microwords = 2 ^ 6

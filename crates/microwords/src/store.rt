@@ -1,12 +1,20 @@
-// The test of a lent control store.
+// A lent control store: the word at an address, and the test of all.
 ghost use mathlib.Core.Path.{_≡_};
 ghost use Rattle.answers.specs.Places.{first-place};
-ghost use Rattle.microwords.specs.ControlStore.{illegal, store-test};
+ghost use Rattle.microwords.specs.ControlStore.{word-at, illegal, store-test};
 use crate::microword::legal;
 use answers::End;
 
 // The most words that a 6-bit counter can name.
 pub const MOST_MICROWORDS: usize = 64;
+
+// The microword at an address.
+pub fn word_at(program: &[u64], mpc: u32) -> u64
+    ensures { λ r. ⌜ r ≡ word-at (now (program .entry)) mpc ⌝ }
+{
+    let at = mpc as usize;
+    if at < program.len() { program[at] } else { 0 }
+}
 
 // The lowest word that is not legal; the length where all are.
 fn lowest_illegal(program: &[u64]) -> usize

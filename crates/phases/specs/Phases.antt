@@ -3,11 +3,11 @@
 use Prim.Native.Nat.{ℕ}
 use mathlib.Core.Bool.{Bool}
 use mathlib.Core.List.{List}
-use lib.ListN.{getD}
 use Rattle.words.specs.Words.{bit}
 use Rattle.words.specs.Fields.{dest}
 use Rattle.status.specs.Psw.{mk-psw}
 use Rattle.microwords.specs.Microword.{fields}
+use Rattle.microwords.specs.ControlStore.{word-at}
 use Rattle.blocks.specs.declared.memory.Store.{Store}
 use Rattle.blocks.specs.Sources.{a-bus, b-bus}
 use Rattle.datapath.specs.Operation.{a-input, operated}
@@ -17,10 +17,6 @@ use Rattle.phases.specs.declared.PhaseMachine.{PhaseMachine}
 -- the interrupt line, bit 0 of what comes from outside; nothing reads bit 1, reset
 unfoldable pub interrupt : ℕ → Bool
 interrupt request = bit request 0
-
--- the microword at an address
-unfoldable pub word-at : List ℕ → ℕ → ℕ
-word-at urom mpc = getD urom mpc 0
 
 -- MIR is loaded from the control store, and the request is latched (pp. 110-112)
 unfoldable pub phase-one : List ℕ → PhaseMachine → ℕ → PhaseMachine

@@ -1,6 +1,6 @@
 // The four phases (from p. 110). Every function is total; specs/ says what each answers.
 ghost use mathlib.Core.Path.{_≡_};
-ghost use Rattle.phases.specs.Phases.{word-at, phase-one, phase-two, phase-three, phase-four, next-mpc, phase-store};
+ghost use Rattle.phases.specs.Phases.{phase-one, phase-two, phase-three, phase-four, next-mpc, phase-store};
 use blocks::choice::choose;
 use blocks::memory::Store;
 use blocks::sources;
@@ -9,6 +9,7 @@ use datapath::results;
 use datapath::results::SystemRegisters;
 use microwords::microword::fields;
 use microwords::sequencer;
+use microwords::store::word_at;
 use status::psw::Psw;
 use words::instruction::decode;
 
@@ -28,14 +29,6 @@ pub struct PhaseMachine {
     pub iack: bool,
     pub mir: u64,
     pub phase: u32,
-}
-
-// The microword at an address.
-fn word_at(program: &[u64], mpc: u32) -> u64
-    ensures { λ r. ⌜ r ≡ word-at (now (program .entry)) mpc ⌝ }
-{
-    let at = mpc as usize;
-    if at < program.len() { program[at] } else { 0 }
 }
 
 // MIR is loaded and the request latched.
@@ -112,12 +105,7 @@ pub fn store(s: PhaseMachine) -> Store
     ensures { λ r. ⌜ r ≡ phase-store s ⌝ }
 {
     let word = fields(s.mir);
-    let wr = word.wr;
-    if wr {
-        Store::Word(s.mar, s.mbr)
-    } else {
-        Store::Nothing
-    }
+    results::store(word, s.mar, s.mbr)
 }
 
 // The result goes to its target. Memory is read here and written by nobody: `store` says what is

@@ -24,7 +24,8 @@ use Rattle.blocks.specs.Memory.{fetch, applied}
 use Rattle.blocks.specs.Sources.{a-source, b-source}
 use Rattle.datapath.specs.Operation.{operated, shifted}
 use Rattle.datapath.specs.Results.{new-psw, new-reg, new-mpc, new-ir, new-pc, new-mbr, new-mar, new-store}
-use Rattle.phases.specs.Phases.{interrupt, word-at}
+use Rattle.microwords.specs.ControlStore.{word-at}
+use Rattle.phases.specs.Phases.{interrupt}
 use Rattle.microcycle.specs.declared.MicroMachine.{MicroMachine}
 use Rattle.microcycle.specs.Microcycle.{microcycle, micro-store, next-address}
 use Rattle.micro_level.specs.Run.{at-fetch}

@@ -8,7 +8,7 @@ use borrow.Author.Tests.{lt-leb}
 use Rattle.words.proofs.FieldBounds.{field-lt}
 use Rattle.microwords.proofs.SixBits.{next-lt}
 use Rattle.datapath.specs.Results.{new-mpc}
-use Rattle.phases.specs.Phases.{word-at}
+use Rattle.microwords.specs.ControlStore.{word-at}
 use Rattle.microcycle.specs.declared.MicroMachine.{MicroMachine}
 use Rattle.microcycle.specs.Microcycle.{next-address, leaves}
 use Rattle.published.specs.Assembler.{packed}

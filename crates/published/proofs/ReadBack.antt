@@ -12,8 +12,7 @@ use Rattle.answers.specs.declared.End.the-variants.{Done}
 use Rattle.answers.specs.Places.{first-place}
 use Rattle.microwords.specs.Microword.{fields}
 use Rattle.microwords.specs.Codes.{legal-microword}
-use Rattle.microwords.specs.ControlStore.{legal-store-length, store-test}
-use Rattle.phases.specs.Phases.{word-at}
+use Rattle.microwords.specs.ControlStore.{word-at, legal-store-length, store-test}
 use Rattle.published.specs.Assembler.{packed}
 use Rattle.published.specs.Listing.{listing, published}
 

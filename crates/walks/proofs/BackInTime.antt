@@ -21,7 +21,8 @@ use Rattle.answers.proofs.OneNumberAnEnd.{only-done-is-done}
 use Rattle.microwords.specs.Sequencer.{fetch-address}
 use Rattle.blocks.specs.Memory.{applied}
 use Rattle.datapath.specs.Results.{new-mpc}
-use Rattle.phases.specs.Phases.{interrupt, word-at}
+use Rattle.microwords.specs.ControlStore.{word-at}
+use Rattle.phases.specs.Phases.{interrupt}
 use Rattle.microcycle.specs.declared.MicroMachine.{MicroMachine}
 use Rattle.microcycle.specs.Microcycle.{next-address, microcycle, micro-store, leaves}
 use Rattle.micro_level.specs.declared.machine.MicroState.{MicroState}

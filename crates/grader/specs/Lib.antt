@@ -1,2 +1,0 @@
--- The C calls, as include/schoonleech.h declares them.
-pub mod Calls

@@ -1,0 +1,2 @@
+-- avm_phase, as include/schoonleech.h declares it.
+pub mod Phase

@@ -1,0 +1,2 @@
+-- avm_run, as include/schoonleech.h declares it.
+pub mod Runs

@@ -1,0 +1,2 @@
+-- avm_steps, as include/schoonleech.h declares it.
+pub mod Steps
