@@ -13,6 +13,7 @@ enum { MESSAGES_MOST = 4 };
 
 static unsigned passed, failed; /* tests */
 static unsigned broken;         /* facts that did not hold in the test that runs */
+static bool stops_at_failure;
 static char standing[80];
 static char remarked[120];
 static sigjmp_buf before_test;
@@ -87,6 +88,8 @@ static void run_test(const struct test *test)
         passed++;
     else
         failed++;
+    if (failed > 0 && stops_at_failure)
+        exit(report());
 }
 
 void run_tests(const struct test *tests)
@@ -100,6 +103,11 @@ int report(void)
 {
     printf("%u passed, %u failed\n", passed, failed);
     return failed == 0 ? 0 : 1;
+}
+
+void stop_at_failure(void)
+{
+    stops_at_failure = true;
 }
 
 uint64_t rounds(uint64_t number)

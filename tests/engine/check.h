@@ -19,6 +19,9 @@ void run_tests(const struct test *tests);
 /* Prints 'N passed, M failed' and gives the program's status. */
 int report(void);
 
+/* From now on the first test that fails is the last one: the program ends there, with its report. */
+void stop_at_failure(void);
+
 /* What a test says while it runs: a fact that must hold, with the words to print where it does not, and a remark for its line. */
 void expect(bool holds, const char *format, ...) __attribute__((format(printf, 2, 3)));
 void remark(const char *format, ...) __attribute__((format(printf, 1, 2)));

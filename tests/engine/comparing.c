@@ -52,6 +52,63 @@ void compare_answers(avm_answer got, avm_answer want)
         seen.answers[want.number]++;
 }
 
+avm_answer compare_call(one_call *call, enum side side)
+{
+    struct both both = lend_both(side);
+    avm_answer want = call(&simulator, &both.mine);
+
+    compare_answers(call(&engine, &both.lent), want);
+    expect_same_places("engine", &both.lent, &both.mine);
+    expect_nothing_beyond("engine");
+    return want;
+}
+
+avm_answer compare_check(enum side side)
+{
+    struct places lent = lend_program(&drawn, side), mine = places_in(&drawn);
+    avm_answer want = call_check(&simulator, &mine);
+
+    compare_answers(call_check(&engine, &lent), want);
+    return want;
+}
+
+avm_answer compare_phase(const struct both *both, uint8_t request)
+{
+    avm_answer want = call_phase(&simulator, &both->mine, request);
+
+    compare_answers(call_phase(&engine, &both->lent, request), want);
+    expect_same_places("engine", &both->lent, &both->mine);
+    return want;
+}
+
+avm_answer compare_read(const struct lent_image *image, enum side side)
+{
+    static uint32_t memory_after[MEMORY_ROOM];
+    struct image_places lent = lend_to_read(image, side);
+    avm_answer want;
+
+    memcpy(memory_after, image->memory, image->m * sizeof memory_after[0]);
+    want = simulator.read(memory_after, image->m, image->text, image->bytes);
+    compare_answers(call_read(&engine, &lent), want);
+    expect_same_words("engine", "memory", lent.memory, memory_after, lent.m);
+    expect_nothing_beyond_read("engine");
+    return want;
+}
+
+avm_answer compare_write(const struct lent_image *image, enum side side)
+{
+    static uint8_t room_after[TEXT_ROOM];
+    struct image_places lent = lend_to_write(image, side);
+    avm_answer want;
+
+    memcpy(room_after, image->text, image->bytes);
+    want = simulator.write(image->memory, image->m, room_after, image->bytes);
+    compare_answers(call_write(&engine, &lent), want);
+    expect_same_text("engine", lent.text, room_after, image->bytes);
+    expect_nothing_beyond_written("engine");
+    return want;
+}
+
 void expect_seen(size_t lowest, size_t highest)
 {
     size_t number;
@@ -65,13 +122,29 @@ uint64_t times_seen(size_t number)
     return seen.answers[number];
 }
 
-void note_step(const struct places *places, bool request)
+void expect_compared(uint64_t compared, uint64_t least, const char *what)
+{
+    expect(compared >= least || !holds_so_far(), "only %llu %s were compared", (unsigned long long)compared, what);
+    remark(" (%llu %s)", (unsigned long long)compared, what);
+}
+
+static void note_step(const struct places *places, bool request)
 {
     uint32_t psw = places->state[AVM_PSW], word = places->memory[places->state[AVM_PC] % places->m];
     bool sm = psw & SM, ie = psw & IE;
 
     seen.steps[sm][request && ie ? INTERRUPT_STEP : word >> 26 & 31]++;
     seen.requests_in_vain += request && !ie;
+}
+
+void step_alone(const struct places *mine, uint8_t request)
+{
+    struct places one = *mine;
+
+    note_step(mine, request);
+    one.requests = &request;
+    one.bytes = 1;
+    expect_same_answer("second simulator", call_steps(&simulator, &one), done(0, 1));
 }
 
 void expect_every_step_seen(void)

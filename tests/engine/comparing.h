@@ -3,6 +3,7 @@
 #define ENGINE_COMPARING_H
 
 #include "check.h"
+#include "images.h"
 #include "places.h"
 
 /* The inputs of the case that stands, and a copy of them to work on. */
@@ -30,14 +31,31 @@ struct both lend_both(enum side side);
 /* Expects equal answers, and notes the number. */
 void compare_answers(avm_answer got, avm_answer want);
 
+/* Compare one call on the drawn inputs, lent on a side: its answer, every lent place and what lies around them. Answer what the second
+   simulator does. The call is one of those of places.h; avm_check is lent the program alone. */
+typedef avm_answer one_call(const struct implementation *implementation, const struct places *places);
+
+avm_answer compare_call(one_call *call, enum side side);
+avm_answer compare_check(enum side side);
+
+/* The same of one phase, in a sequence of calls on places that both have. */
+avm_answer compare_phase(const struct both *both, uint8_t request);
+
+/* The same of an image that is read and of one that is written. */
+avm_answer compare_read(const struct lent_image *image, enum side side);
+avm_answer compare_write(const struct lent_image *image, enum side side);
+
 /* A comparison shows something only where each of these answers came. */
 void expect_seen(size_t lowest, size_t highest);
 
 /* How many cases were answered with that number. */
 uint64_t times_seen(size_t number);
 
-/* Notes the step that these places are about to do with that request. */
-void note_step(const struct places *places, bool request);
+/* Expects that at least so much was compared, and says how much in the test's line. */
+void expect_compared(uint64_t compared, uint64_t least, const char *what);
+
+/* One step of the second simulator on one's own places; it is noted. */
+void step_alone(const struct places *mine, uint8_t request);
 
 /* A comparison of steps shows something only where every instruction and the interrupt step came in both modes, and requests in vain. */
 void expect_every_step_seen(void);

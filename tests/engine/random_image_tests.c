@@ -8,7 +8,6 @@
 #include "texts.h"
 
 static struct lent_image drawn_image;
-static uint32_t memory_after[MEMORY_ROOM]; /* the second simulator's */
 
 static void draw_text(struct dice *dice, struct inputs *inputs)
 {
@@ -109,16 +108,8 @@ static void look_into(avm_answer answer)
 
 static uint64_t text_case(struct dice *dice, enum side side)
 {
-    struct image_places lent = lend_to_read(&drawn_image, side);
-    avm_answer want;
-
     (void)dice;
-    memcpy(memory_after, drawn_image.memory, drawn_image.m * sizeof memory_after[0]);
-    want = simulator.read(memory_after, drawn_image.m, drawn_image.text, drawn_image.bytes);
-    compare_answers(call_read(&engine, &lent), want);
-    expect_same_words("engine", "memory", lent.memory, memory_after, lent.m);
-    expect_nothing_beyond_read("engine");
-    look_into(want);
+    look_into(compare_read(&drawn_image, side));
     return 1;
 }
 
@@ -150,7 +141,7 @@ static void random_texts(void)
     }
     for (k = 0; k < OCCASIONS; k++)
         expect(occasions[k] >= texts / 200, "only %llu texts were %s", (unsigned long long)occasions[k], occasion_names[k]);
-    remark(" (%llu texts)", (unsigned long long)texts);
+    expect_compared(texts, 50000, "texts");
 }
 
 /* A text of a length near the limit, of records of no data, with one byte changed in every second one. */
@@ -201,16 +192,8 @@ static void draw_room(struct dice *dice, struct inputs *inputs)
 
 static uint64_t written_case(struct dice *dice, enum side side)
 {
-    static uint8_t room_after[TEXT_ROOM];
-    struct image_places lent = lend_to_write(&drawn_image, side);
-    avm_answer want;
-
     (void)dice;
-    memcpy(room_after, drawn_image.text, drawn_image.bytes);
-    want = simulator.write(drawn_image.memory, drawn_image.m, room_after, drawn_image.bytes);
-    compare_answers(call_write(&engine, &lent), want);
-    expect_same_text("engine", lent.text, room_after, drawn_image.bytes);
-    expect_nothing_beyond_written("engine");
+    compare_write(&drawn_image, side);
     return 1;
 }
 
@@ -234,6 +217,7 @@ static void draw_to_write(struct dice *dice, struct inputs *inputs)
 /* What the engine writes of one memory, it reads into another one. */
 static uint64_t round_trip_case(struct dice *dice, enum side side)
 {
+    static uint32_t memory_after[MEMORY_ROOM];
     struct image_places lent;
 
     memcpy(memory_after, drawn_image.memory, drawn_image.m * sizeof memory_after[0]);

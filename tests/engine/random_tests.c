@@ -5,14 +5,8 @@
 
 static uint64_t run_case(struct dice *dice, enum side side)
 {
-    struct both both = lend_both(side);
-    avm_answer want = call_run(&simulator, &both.mine);
-
     (void)dice;
-    compare_answers(call_run(&engine, &both.lent), want);
-    expect_same_places("engine", &both.lent, &both.mine);
-    expect_nothing_beyond("engine");
-    return want.microcycles.count;
+    return compare_call(call_run, side).microcycles.count;
 }
 
 static void random_runs(void)
@@ -21,8 +15,7 @@ static void random_runs(void)
 
     expect_seen(AVM_DONE, AVM_DONE);
     expect_seen(AVM_LEFT_PROGRAM, AVM_LEFT_PROGRAM);
-    expect(microcycles >= 1000000 || !holds_so_far(), "only %llu microcycles were compared", (unsigned long long)microcycles);
-    remark(" (%llu microcycles)", (unsigned long long)microcycles);
+    expect_compared(microcycles, 1000000, "microcycles");
 }
 
 static uint64_t damaged_run_case(struct dice *dice, enum side side)
@@ -35,17 +28,6 @@ static void random_damaged_runs(void)
 {
     compare_cases(5, 2000, damaged_run_case);
     expect_seen(AVM_DONE, AVM_LEFT_PROGRAM);
-}
-
-static void compare_phase(const struct places *lent, const struct places *mine, uint8_t request)
-{
-    avm_answer want = call_phase(&simulator, mine, request);
-
-    compare_answers(call_phase(&engine, lent, request), want);
-    expect_same_places("engine", lent, mine);
-    /* a microword that leaves would be refused for ever */
-    if (want.number == AVM_LEFT_PROGRAM)
-        *lent->mir = *mine->mir = pack(idle());
 }
 
 /* One of the words that a caller may change between two phase calls. */
@@ -73,15 +55,15 @@ static void apply(const struct change *change, const struct places *places)
         *places->phase = change->value % 4;
 }
 
-static void change_both(struct dice *dice, const struct places *lent, const struct places *mine)
+static void change_both(struct dice *dice, const struct both *both)
 {
     struct change change;
 
     change.which = dice_below(dice, CHANGES);
     change.value = draw_value(dice);
     change.microword = draw_microword(dice, 0, 64, false);
-    apply(&change, lent);
-    apply(&change, mine);
+    apply(&change, &both->lent);
+    apply(&change, &both->mine);
 }
 
 static uint64_t phases_case(struct dice *dice, enum side side)
@@ -92,8 +74,10 @@ static uint64_t phases_case(struct dice *dice, enum side side)
 
     for (call = 0; call < CALLS && holds_so_far(); call++) {
         if (dice_chance(dice, 5))
-            change_both(dice, &both.lent, &both.mine);
-        compare_phase(&both.lent, &both.mine, (uint8_t)dice_below(dice, 4));
+            change_both(dice, &both);
+        /* a microword that leaves would be refused for ever */
+        if (compare_phase(&both, (uint8_t)dice_below(dice, 4)).number == AVM_LEFT_PROGRAM)
+            *both.lent.mir = *both.mine.mir = pack(idle());
     }
     expect_nothing_beyond("engine");
     return call;
@@ -114,7 +98,7 @@ static uint64_t damaged_phase_case(struct dice *dice, enum side side)
 
     draw_damage(dice, &drawn);
     both = lend_both(side);
-    compare_phase(&both.lent, &both.mine, (uint8_t)(dice_chance(dice, 20) ? dice_below(dice, 256) : dice_below(dice, 4)));
+    compare_phase(&both, (uint8_t)(dice_chance(dice, 20) ? dice_below(dice, 256) : dice_below(dice, 4)));
     expect_nothing_beyond("engine");
     return 1;
 }

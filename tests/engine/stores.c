@@ -162,6 +162,37 @@ static void change_length(struct dice *dice, struct inputs *in)
         in->program[k] = in->program[k - words];
 }
 
+/* From one word to another one alone, by its address or, where that is the next word, by any condition that leads there. */
+static void lead_alone(struct dice *dice, struct inputs *in, size_t from, size_t to)
+{
+    static const unsigned conditions[] = {COND_STEP, COND_JMP, COND_JINT, COND_JSM};
+    unsigned cond = to == from + 1 ? conditions[dice_below(dice, COUNT(conditions))] : COND_JMP;
+
+    redirect(in, from, cond, (unsigned)to);
+}
+
+/* One walk through all words of a full store or one word less: no word is reached in any other way. The last one leads to fetch, back into
+   the walk, or out of the store where there is an address outside. */
+static void draw_long_walk(struct dice *dice, struct inputs *in)
+{
+    struct order order;
+    size_t place, last;
+    unsigned cond = draw_jump(dice);
+
+    in->words = 63 + dice_below(dice, 2);
+    order = draw_order(dice, in->words);
+    for (place = 0; place < in->words; place++)
+        in->program[place] = draw_microword(dice, place, in->words, false);
+    for (place = 0; place + 1 < in->words; place++)
+        lead_alone(dice, in, order.word[place], order.word[place + 1]);
+    last = order.word[place];
+    switch (dice_below(dice, 3)) {
+    case 0: redirect(in, last, COND_JMP, AVM_FETCH); break;
+    case 1: redirect(in, last, cond, (unsigned)order.word[1 + dice_below(dice, place)]); break;
+    default: redirect(in, last, cond, (unsigned)in->words % 64); break;
+    }
+}
+
 static size_t draw_number_of_words(struct dice *dice)
 {
     switch (dice_below(dice, 4)) {
@@ -171,7 +202,7 @@ static size_t draw_number_of_words(struct dice *dice)
     }
 }
 
-void draw_store(struct dice *dice, struct inputs *in)
+static void draw_ways(struct dice *dice, struct inputs *in)
 {
     struct order order;
 
@@ -182,6 +213,11 @@ void draw_store(struct dice *dice, struct inputs *in)
         lead_back(dice, in, &order);
     if (dice_chance(dice, 30))
         lead_out(dice, in);
+}
+
+void draw_store(struct dice *dice, struct inputs *in)
+{
+    (dice_chance(dice, 10) ? draw_long_walk : draw_ways)(dice, in);
     if (dice_chance(dice, 12))
         spoil(dice, in);
     if (dice_chance(dice, 8))

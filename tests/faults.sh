@@ -1,0 +1,88 @@
+# The tests of the C calls (tests/engine) can fail. Each fault of tests/faults is planted in a copy of the second simulator, alone, and the
+# tests must find it: an answer or a lent place that is not as it must be. The copy without a fault must pass all of them.
+#
+# SCHOONLEECH_LIB  an archive to test instead of the proved one
+. tests/host/counting.bash
+. tests/host/x86_64.bash
+. tests/host/library.bash
+. tests/faults/planting.bash
+
+[ -n "${SCHOONLEECH_LIB:-}" ] || one "the library is proved" prove_library
+[ "$failed" -eq 0 ] || finish
+
+top=$PWD
+mkdir "$work/engine" "$work/simulator"
+# a planted line may have several statements
+compile="$cc -std=c99 -O1 -Wall -Wextra -Werror -Wno-misleading-indentation -I$top/tests/simulator -c"
+
+compile_all() {
+    local sources
+    sources=$(ls "$top"/tests/engine/*.c | grep -v header_use)
+    (cd "$work/engine" && $compile $sources) && (cd "$work/simulator" && $compile "$top"/tests/simulator/*.c)
+}
+
+one "tests and second simulator compile" compile_all
+[ "$failed" -eq 0 ] || finish
+
+# The tests that are about a file. They come first, so that most faults are found at once.
+about() { # FILE
+    case $1 in
+    instructions.c) echo instructions flow ;;
+    simulator.c) echo refusals step_refusals walk_refusals walks reads writes ;;
+    walks.c) echo walk_refusals walks ;;
+    images.c) echo reads writes read_refusals ;;
+    esac
+}
+
+# Links the tests with the given objects and runs them to the first one that fails.
+run_tests() { # PROGRAM WORDS OBJECT..
+    local program=$1 words=$2
+    shift 2
+    $cc -o "$program" "$work"/engine/*.o "$@" "$library" && timeout 100 $emulator "$program" first $words
+}
+
+show_end() { # OUTPUT
+    tail -n 3 "$1" | sed 's/^/        /'
+}
+
+# Why the tests failed must be a comparison: not a page that can't be touched, and not something that came too rarely.
+try() { # FAULT
+    local name file folder
+    name=$(basename "$1" .fault)
+    file=$(fault_line "$1" file)
+    folder=$work/$name
+    mkdir "$folder"
+    if ! plant "$1" "$folder" || ! $compile -o "$folder/${file%.c}.o" "$folder/$file"; then
+        echo "FAILED  $name: it can't be planted"
+        return
+    fi
+    cp -n "$work"/simulator/*.o "$folder"
+    run_tests "$folder/tests" "$(about "$file")" "$folder"/*.o >"$folder/out" 2>&1
+    if grep -qE '^    .* (answers|leaves) .*, not ' "$folder/out" && grep -q '^FAILED' "$folder/out"; then
+        sed -n "s/^FAILED  \(.*\)/passed  $name: found by \"\1\"/p" "$folder/out"
+    else
+        echo "FAILED  $name: not found"
+        show_end "$folder/out"
+    fi
+}
+
+without_a_fault() {
+    if run_tests "$work/tests" "" "$work"/simulator/*.o >"$work/out" 2>&1; then
+        echo "passed  the copy without a fault: nothing is found"
+    else
+        echo "FAILED  the copy without a fault: something is found"
+        show_end "$work/out"
+    fi
+}
+
+without_a_fault >"$work/unchanged" &
+for fault in tests/faults/*.fault; do
+    while [ "$(jobs -rp | wc -l)" -ge 2 ]; do wait -n; done
+    try "$fault" >"$work/$(basename "$fault")" 2>&1 &
+done
+wait
+
+cat "$work/unchanged" "$work"/*.fault >"$work/results"
+cat "$work/results"
+passed=$((passed + $(grep -c '^passed' "$work/results"))) failed=$((failed + $(grep -c '^FAILED' "$work/results")))
+finish
