@@ -1,13 +1,12 @@
 /* Checks a second of avm_check and of a plain C checker, on the same microprograms in the same process; see bench/README.md. */
 #include <stdbool.h>
 #include <stdio.h>
-#include <stdlib.h>
 
 #include "plain_check.h"
 #include "timing.h"
 
 enum { STEP, JMP, JOP, JINT, JSM };
-enum { REPETITIONS = 21, CHECKS_A_SECOND = 20000 }; /* the second: what avm_check has to do on one core */
+enum { CHECKS_A_SECOND = 20000 }; /* what avm_check has to do on one core */
 
 static const double shortest_repetition = 0.01; /* seconds: long against what one reading of the clock costs */
 
@@ -74,12 +73,6 @@ static bool same(avm_answer a, avm_answer b)
     return a.number == b.number && a.at == b.at && a.microcycles.count == b.microcycles.count && a.steps.count == b.steps.count;
 }
 
-static void fail(const struct row *row, const char *what)
-{
-    printf("bench: %s: %s\n", row->name, what);
-    exit(1);
-}
-
 /* Seconds for that many checks. Each answer is compared, so that none is left out. */
 static double seconds(checker *check, const struct row *row, const uint64_t *program, unsigned long checks)
 {
@@ -89,7 +82,7 @@ static double seconds(checker *check, const struct row *row, const uint64_t *pro
     for (k = 0; k < checks; k++)
         wrong += !same(check(program, 64), row->answer);
     if (wrong > 0)
-        fail(row, "an answer changed while it was measured");
+        fail(row->name, "an answer changed while it was measured");
     return processor_seconds() - start;
 }
 
@@ -121,7 +114,7 @@ static void measure(const struct row *row, const uint64_t *program)
     printf("%-34s %12.0f %12.0f %7.2f  (%.2f to %.2f)\n", row->name, rate, (double)checks / median(plain, REPETITIONS), middle, ratio[0],
            ratio[REPETITIONS - 1]);
     if (rate < CHECKS_A_SECOND)
-        fail(row, "the proved checker is too slow");
+        fail(row->name, "the proved checker is too slow");
 }
 
 static void compare(const struct row *row, const uint64_t *program)
@@ -129,9 +122,9 @@ static void compare(const struct row *row, const uint64_t *program)
     avm_answer proved = avm_check(program, 64), plain = plain_check(program, 64);
 
     if (!same(proved, plain))
-        fail(row, "the proved checker and plain C answer differently");
+        fail(row->name, "the proved checker and plain C answer differently");
     if (!same(proved, row->answer))
-        fail(row, "both answer something else than the row is made for");
+        fail(row->name, "both answer something else than the row is made for");
 }
 
 int main(void)

@@ -2,13 +2,10 @@
    bench/README.md. */
 #include <stdbool.h>
 #include <stdio.h>
-#include <stdlib.h>
 #include <string.h>
 
 #include "../include/schoonleech.h"
 #include "timing.h"
-
-enum { REPETITIONS = 21 };
 
 static const double shortest_repetition = 0.01; /* seconds: long against what one reading of the clock costs */
 static const double lowest_ratio = 1.5, highest_ratio = 2.7;
@@ -20,12 +17,6 @@ struct job {
     uint8_t text[AVM_TEXT_MOST];
     size_t m, bytes;
 };
-
-static void fail(const char *name, const char *what)
-{
-    printf("bench: %s: %s\n", name, what);
-    exit(1);
-}
 
 static bool do_once(struct job *job)
 {

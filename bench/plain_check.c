@@ -1,6 +1,6 @@
 #include "plain_check.h"
 
-#include <stdbool.h>
+#include "plain_microword.h"
 
 /* A set of addresses is a number with a bit for each. */
 typedef uint64_t set;
@@ -13,12 +13,6 @@ static set only(unsigned address)
 static unsigned lowest(set addresses)
 {
     return (unsigned)__builtin_ctzll(addresses);
-}
-
-static bool legal(uint64_t word)
-{
-    return word >> 40 == 0 && (word >> 33 & 15) <= 10 && (word >> 27 & 7) <= 5 && (word >> 25 & 3) <= 2 && (word >> 22 & 7) <= 6 &&
-           (word >> 6 & 7) <= 4;
 }
 
 static set next_addresses(uint64_t word, unsigned address)

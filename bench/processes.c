@@ -4,21 +4,14 @@
 
 #include <spawn.h>
 #include <stdio.h>
-#include <stdlib.h>
 #include <string.h>
 #include <sys/wait.h>
 
 #include "timing.h"
 
-enum { REPETITIONS = 201 };
+enum { RUNS = 201 };
 
 extern char **environ;
-
-static void fail(const char *what, const char *name)
-{
-    printf("bench: %s %s\n", what, name);
-    exit(1);
-}
 
 static double seconds(char **command)
 {
@@ -27,9 +20,9 @@ static double seconds(char **command)
     pid_t child;
 
     if (posix_spawnp(&child, command[0], NULL, NULL, command, environ) != 0)
-        fail("can't start", command[0]);
+        fail(command[0], "can't be started");
     if (waitpid(child, &status, 0) != child || !WIFEXITED(status) || WEXITSTATUS(status) != 0)
-        fail("a run failed:", command[0]);
+        fail(command[0], "a run failed");
     return wall_seconds() - start;
 }
 
@@ -37,19 +30,19 @@ static double seconds(char **command)
    count. */
 static void measure(char **first, char **second)
 {
-    double ours[REPETITIONS], theirs[REPETITIONS], ratio[REPETITIONS], middle;
+    double ours[RUNS], theirs[RUNS], ratio[RUNS], middle;
     int k;
 
     seconds(first);
     seconds(second);
-    for (k = 0; k < REPETITIONS; k++) {
+    for (k = 0; k < RUNS; k++) {
         ours[k] = seconds(first);
         theirs[k] = seconds(second);
         ratio[k] = ours[k] / theirs[k];
     }
-    middle = median(ratio, REPETITIONS);
-    printf("%.2f ms and %.2f ms a run, ratio %.2f  (half of the ratios from %.2f to %.2f)\n", 1e3 * median(ours, REPETITIONS),
-           1e3 * median(theirs, REPETITIONS), middle, ratio[REPETITIONS / 4], ratio[REPETITIONS - 1 - REPETITIONS / 4]);
+    middle = median(ratio, RUNS);
+    printf("%.2f ms and %.2f ms a run, ratio %.2f  (half of the ratios from %.2f to %.2f)\n", 1e3 * median(ours, RUNS),
+           1e3 * median(theirs, RUNS), middle, ratio[RUNS / 4], ratio[RUNS - 1 - RUNS / 4]);
 }
 
 int main(int count, char **words)
@@ -59,7 +52,7 @@ int main(int count, char **words)
     while (between < count && strcmp(words[between], "--") != 0)
         between++;
     if (between == 1 || between >= count - 1)
-        fail("wants", "COMMAND.. -- COMMAND..");
+        fail(words[0], "wants COMMAND.. -- COMMAND..");
     words[between] = NULL;
     measure(words + 1, words + between + 1);
     return 0;

@@ -17,6 +17,7 @@ build() { # NAME SOURCE..
 }
 
 build checks bench/checks.c bench/plain_check.c bench/timing.c
+build runs bench/runs.c bench/plain_run.c bench/timing.c
 build images bench/images.c bench/timing.c
 build hex_to_binary bench/hex_to_binary.c
 build processes bench/processes.c bench/timing.c
@@ -31,4 +32,4 @@ whole_processes() {
         cmp "$work/image" "$work/ours" && cmp "$work/image" "$work/theirs"
 }
 
-$emulator "$work/checks" && $emulator "$work/images" && whole_processes
+$emulator "$work/runs" && $emulator "$work/checks" && $emulator "$work/images" && whole_processes

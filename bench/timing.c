@@ -2,6 +2,7 @@
 
 #include "timing.h"
 
+#include <stdio.h>
 #include <stdlib.h>
 #include <time.h>
 
@@ -34,4 +35,10 @@ double median(double *numbers, size_t count)
 {
     qsort(numbers, count, sizeof numbers[0], compare_doubles);
     return numbers[count / 2];
+}
+
+void fail(const char *name, const char *what)
+{
+    printf("bench: %s: %s\n", name, what);
+    exit(1);
 }

@@ -1,0 +1,43 @@
+#define _POSIX_C_SOURCE 200809L
+
+#include "progress.h"
+
+#include <stdio.h>
+#include <time.h>
+#include <unistd.h>
+
+static double now(void)
+{
+    struct timespec time;
+
+    clock_gettime(CLOCK_MONOTONIC, &time);
+    return (double)time.tv_sec + (double)time.tv_nsec / 1e9;
+}
+
+struct progress start_progress(avm_microcycles until)
+{
+    struct progress progress = {false, false, 0, {0}};
+
+    progress.wanted = isatty(STDERR_FILENO) == 1;
+    progress.next = now() + 0.5;
+    progress.until = until;
+    return progress;
+}
+
+void show_progress(struct progress *progress, avm_microcycles done)
+{
+    /* A microcycle takes less than a microsecond, so the clock is not looked at in each. */
+    if (!progress->wanted || done.count % 1024 != 0 || now() < progress->next)
+        return;
+    fprintf(stderr, "\rmicrocycle %llu of %llu, %u %%", (unsigned long long)done.count, (unsigned long long)progress->until.count,
+            (unsigned)(done.count * 100 / progress->until.count));
+    progress->shown = true;
+    progress->next = now() + 0.2;
+}
+
+void hide_progress(struct progress *progress)
+{
+    if (progress->shown)
+        fprintf(stderr, "\r%50s\r", "");
+    progress->shown = false;
+}
