@@ -1,7 +1,7 @@
 /* Schoonleech: a simulated AVM-1, for C99 and C++.
 
-   AVM-1 is the microprogrammed processor of chapter 5 of P. J. Windley's dissertation (1990). docs/AVM1.md has its tables and docs/DECISIONS.md
-   what those leave open.
+   AVM-1 is the microprogrammed processor of chapter 5 of P. J. Windley's dissertation (1990). docs/AVM1.md has its tables, and
+   docs/DECISIONS.md what those leave open. docs/GRADER.md leads from here to a marked program and says what to tell a student.
 
    A caller lends places: a microprogram, memory, registers, a block of state words, text. A call reads them, changes some of them where
    they stand and returns an avm_answer. It keeps nothing for the next call. avm_published alone is lent nothing and returns a microword.
@@ -76,8 +76,9 @@ typedef struct {
 
 /* Words of the state block, by index; AVM_STATE is their number.
 
-   AVM_PSW   program status word: z bit 0, c bit 1, n bit 2, v bit 3, ie bit 4, sm bit 5. Higher bits mean nothing. A call drops them from the
-             lent PSW, also where it has no microcycle or step to do; a refused call that completed no microcycle leaves them as lent.
+   AVM_PSW   program status word: z bit 0, c bit 1, n bit 2, v bit 3, ie bit 4, sm bit 5. Higher bits mean nothing. A call drops them
+             from the lent PSW, also where it has no microcycle or step to do; a refused call that completed no microcycle leaves them
+             as lent.
    AVM_PC    program counter, an address in memory words
    AVM_IR    instruction register
    AVM_MAR   memory address register, an address in memory words
@@ -242,10 +243,11 @@ avm_answer avm_write(const uint32_t *memory, size_t m, uint8_t *room, size_t byt
        for (k = 0; k < AVM_PROGRAM_MOST; k++)
            program[k] = avm_published(k);
 
-   A run of it with MPC at AVM_FETCH is never answered with 8, and its returns to fetch show exactly the steps of avm_steps. After the n-th
-   return memory, registers, PSW, PC and IVEC are those that avm_steps leaves after n steps from the same start. The n-th step's byte is the
-   interrupt bit of the request byte of the n-th microcycle that stood at fetch; all other request bytes change nothing.
-   A step takes 4 microcycles, but CALL and INT 7, RTI, RTN, LD, LDI, ST and STI 6, and the interrupt step 5. avm_check accepts it with 7. */
+   A run of it with MPC at AVM_FETCH is never answered with 8, and its returns to fetch show exactly the steps of avm_steps. After the
+   n-th return memory, registers, PSW, PC and IVEC are those that avm_steps leaves after n steps from the same start. The n-th step's byte
+   is the interrupt bit of the request byte of the n-th microcycle that stood at fetch; all other request bytes change nothing.
+   A step takes 4 microcycles, but CALL and INT 7, RTI, RTN, LD, LDI, ST and STI 6, and the interrupt step 5. avm_check accepts it with
+   7. */
 uint64_t avm_published(uint64_t address);
 
 #ifdef __cplusplus

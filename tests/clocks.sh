@@ -30,8 +30,8 @@ refused_for_its_types() { # NAME CRATE FILE OLD NEW [OLD NEW]..
 
 refused_for_its_types "a run that exchanges its clocks" micro_level src/run.rt \
     'microcycles: completed,' 'microcycles: returned,' 'steps: returned,' 'steps: completed,'
-refused_for_its_types "a C call that exchanges them" grader src/lib.rt \
-    'return answer_of(end, microcycles, steps);' 'return answer_of(end, steps, microcycles);'
+refused_for_its_types "a C call that exchanges them" run_call src/lib.rt \
+    'answer_of(end, microcycles, steps)' 'answer_of(end, steps, microcycles)'
 
 echo "$passed passed, $failed failed"
 [ "$failed" -eq 0 ]

@@ -1,9 +1,13 @@
 # What a script needs and is not here is installed with apt-get; where that can't be done, the script that reads this file ends with 77.
 
+install_packages() { # PACKAGE..
+    { apt-get update && DEBIAN_FRONTEND=noninteractive apt-get install -y --no-install-recommends "$@"; } >/dev/null 2>&1
+}
+
 install_or_skip() { # COMMAND PACKAGE..
     local tool=$1
     shift
     command -v "$tool" >/dev/null && return
-    { apt-get update && DEBIAN_FRONTEND=noninteractive apt-get install -y --no-install-recommends "$@"; } >/dev/null 2>&1
+    install_packages "$@"
     command -v "$tool" >/dev/null || { echo "there is no $tool here and it can't be installed"; exit 77; }
 }

@@ -1,8 +1,8 @@
 -- A run at the requests from the i-th on: one microcycle more, a refusal, the end. The premises are what a turn of the loop ensures.
 use Prim.Native.Nat.{ℕ, _+_, _<_}
 use native.Mathlib.Numerals.{add-one}
-use mathlib.Core.Path.{_≡_, refl, sym, ap, _∙_}
-use mathlib.Core.Bool.{Bool, true, false, false≢true, cond}
+use mathlib.Core.Path.{_≡_, sym, ap, _∙_}
+use mathlib.Core.Bool.{Bool, true, false}
 use mathlib.Core.List.{List}
 use lib.ListN.{length, getD, drop}
 use lib.Seq.{drop-cons, drop-length}
@@ -12,10 +12,10 @@ use Rattle.blocks.specs.Memory.{applied}
 use Rattle.microcycle.specs.declared.MicroMachine.{MicroMachine}
 use Rattle.microcycle.specs.declared.Core.{Core}
 use Rattle.microcycle.specs.Microcycle.{microcycle, micro-store, leaves}
-use Rattle.microcycle.specs.Performing.{core-of, machine}
+use Rattle.microcycle.specs.Performing.{machine}
 use Rattle.micro_level.specs.declared.run.Advanced.{Advanced}
 use Rattle.micro_level.specs.Run.{at-fetch, ended, run-on}
-use Rattle.micro_level.specs.Advance.{AdvancedTo, advanced-to, advanced}
+use Rattle.micro_level.specs.Advance.{AdvancedTo, advanced-to, advanced-by, advanced}
 
 module _ (program mem registers : List ℕ) (core : Core) (done returns : ℕ) (requests : List ℕ) (i : ℕ) (h : i < length requests)
     {out : Advanced} {after registers′ : List ℕ} (e : advanced-to out after registers′ ≡ advanced program mem registers core (getD requests i 0)) where
@@ -26,9 +26,7 @@ module _ (program mem registers : List ℕ) (core : Core) (done returns : ℕ) (
   next = microcycle program mem s (getD requests i 0)
 
   abbrev outcome : Bool → AdvancedTo
-  outcome b =
-      cond b (advanced-to (record { left = true; core = core }) mem registers)
-      (advanced-to (record { left = false; core = core-of next }) (applied (micro-store program s) mem) (next .registers))
+  outcome leaving = advanced-by leaving program mem registers core (getD requests i 0)
 
   -- the outcome shows which way it went
   same-way : (b : Bool) → advanced-to out after registers′ ≡ outcome b → out .left ≡ b

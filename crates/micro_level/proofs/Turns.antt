@@ -1,7 +1,7 @@
 -- The two outcomes of a turn of the loop. The premises are what the calls inside ensure.
 use Prim.Native.Nat.{ℕ, _<_, _≤_}
-use mathlib.Core.Path.{_≡_, sym, ap, _∙_}
-use mathlib.Core.Bool.{Bool, true, false, cond}
+use mathlib.Core.Path.{_≡_, ap, _∙_}
+use mathlib.Core.Bool.{true, false}
 use mathlib.Core.List.{List}
 use lib.ListN.{length}
 use borrow.Author.Tests.{le-leb, lt-leb}
@@ -13,9 +13,9 @@ use Rattle.microcycle.specs.declared.Core.{Core}
 use Rattle.microcycle.specs.declared.Read.{Read}
 use Rattle.microcycle.specs.declared.Performed.{Performed}
 use Rattle.microcycle.specs.Microcycle.{microcycle, next-address, micro-store, leaves}
-use Rattle.microcycle.specs.Performing.{core-of, machine, read-of, next-of, performed, put}
+use Rattle.microcycle.specs.Performing.{machine, read-of, next-of, performed, put}
 use Rattle.microcycle.proofs.SameMicrocycle.{same-next, same-state, same-store}
-use Rattle.micro_level.specs.Advance.{AdvancedTo, advanced-to, advanced}
+use Rattle.micro_level.specs.Advance.{advanced-to, advanced}
 
 module _ (program mem registers : List ℕ) (core : Core) (request : ℕ) {word next : ℕ}
     (ew : word ≡ word-at program (core .mpc)) (en : next ≡ next-of word core request) where

@@ -1,7 +1,7 @@
 -- One turn of the loop: a microcycle on registers and memory where they stand, or nothing at all where its next address is outside. Assumes
 -- nothing.
 use Prim.Native.Nat.{ℕ}
-use mathlib.Core.Bool.{cond, true, false}
+use mathlib.Core.Bool.{Bool, cond, true, false}
 use mathlib.Core.List.{List}
 use Rattle.blocks.specs.Memory.{applied}
 use Rattle.microcycle.specs.declared.Core.{Core}
@@ -18,9 +18,14 @@ pub record AdvancedTo : Type 0 where
 abbrev pub advanced-to : Advanced → List ℕ → List ℕ → AdvancedTo
 advanced-to answer mem registers = record { answer = answer; memory = mem; registers = registers }
 
-abbrev pub advanced : List ℕ → List ℕ → List ℕ → Core → ℕ → AdvancedTo
-advanced program mem registers core request =
+-- by whether it would leave
+abbrev pub advanced-by : Bool → List ℕ → List ℕ → List ℕ → Core → ℕ → AdvancedTo
+advanced-by leaving program mem registers core request =
     let s = machine registers core in
     let next = microcycle program mem s request in
-    cond (leaves program s request) (advanced-to (record { left = true; core = core }) mem registers)
+    cond leaving (advanced-to (record { left = true; core = core }) mem registers)
     (advanced-to (record { left = false; core = core-of next }) (applied (micro-store program s) mem) (next .registers))
+
+abbrev pub advanced : List ℕ → List ℕ → List ℕ → Core → ℕ → AdvancedTo
+advanced program mem registers core request =
+    advanced-by (leaves program (machine registers core) request) program mem registers core request

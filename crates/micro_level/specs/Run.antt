@@ -44,11 +44,12 @@ pub record RanOn : Type 0 where
   pub ran : Ran
   pub memory : List ℕ
 
-abbrev pub ran-to : End → MicroMachine → ℕ → ℕ → Ran
-ran-to end s done returns = record { end = end; microcycles = record { count = done }; steps = record { count = returns }; machine = s }
-
 abbrev pub ended : End → List ℕ → MicroMachine → ℕ → ℕ → RanOn
-ended end mem s done returns = record { ran = ran-to end s done returns; memory = mem }
+ended end mem s done returns =
+    record {
+      ran = record { end = end; microcycles = record { count = done }; steps = record { count = returns }; machine = s };
+      memory = mem;
+    }
 
 -- the run from here over the requests that are left, with so many microcycles done and so many returns
 unfoldable pub run-on : List ℕ → List ℕ → MicroMachine → ℕ → ℕ → List ℕ → RanOn

@@ -1,7 +1,7 @@
 // A run: one microcycle for each request byte.
 ghost use mathlib.Core.Path.{_≡_};
 ghost use Rattle.micro_level.specs.Machine.{taken, given};
-ghost use Rattle.micro_level.specs.Run.{micro-test, ran-to, run-on, answer-of, run};
+ghost use Rattle.micro_level.specs.Run.{micro-test, run-on, answer-of, run};
 ghost use Rattle.micro_level.specs.Advance.{advanced-to, advanced};
 ghost use Rattle.microcycle.specs.Performing.{core-of, machine, read-of, put};
 use crate::machine::MicroState;
@@ -106,20 +106,6 @@ fn machine(registers: [u32; 32], core: Core) -> MicroMachine
     }
 }
 
-// An end with the two clocks.
-fn ended(end: End, microcycles: u64, steps: u64, machine: MicroMachine) -> Ran
-    ensures { λ r. ⌜ r ≡ ran-to end machine microcycles steps ⌝ }
-{
-    let microcycles = Microcycles { count: microcycles };
-    let steps = Steps { count: steps };
-    Ran {
-        end: end,
-        microcycles: microcycles,
-        steps: steps,
-        machine: machine,
-    }
-}
-
 // What a run is lent, lowest number first.
 fn tested(words: usize, program: &[u64], s: MicroState, requests: &[u8]) -> End
     ensures { λ r. ⌜ r ≡ micro-test words (now (program .entry)) s (now (requests .entry)) ⌝ }
@@ -169,7 +155,8 @@ fn put(registers: &mut [u32; 32], number: u32, value: u32)
     registers[number as usize] = value;
 }
 
-// One microcycle, on registers and memory where they stand; nothing where it would leave.
+// One microcycle, on registers and memory where they stand; nothing where it would leave. It is the
+// microcycle's only caller, and the loop is its own.
 fn advance(
     program: &[u64],
     memory: &mut [u32],
@@ -200,7 +187,7 @@ fn advance(
     }
 }
 
-// The loop. It keeps the registers in one place, and is the microcycle's only caller.
+// The loop. It keeps the registers in one place.
 fn run_on(program: &[u64], memory: &mut [u32], s: MicroMachine, requests: &[u8]) -> Ran
     ensures { λ r. ⌜ r ≡ run-on (now (program .entry)) (now (memory .entry)) s 0 0 (now (requests .entry)) .ran ⌝ }
     ensures { λ _. ⌜ now (memory .exit) ≡ run-on (now (program .entry)) (now (memory .entry)) s 0 0 (now (requests .entry)) .memory ⌝ }
@@ -215,18 +202,29 @@ fn run_on(program: &[u64], memory: &mut [u32], s: MicroMachine, requests: &[u8])
         let next = advanced.core;
         let mpc = next.mpc;
         if left {
-            return ended(
-                End::NextAddress,
-                at as u64,
-                returns,
-                machine(registers, next),
-            );
+            let end = End::NextAddress;
+            let completed = Microcycles { count: at as u64 };
+            let returned = Steps { count: returns };
+            return Ran {
+                end: end,
+                microcycles: completed,
+                steps: returned,
+                machine: machine(registers, next),
+            };
         }
         core = next;
         returns += (mpc == FETCH) as u64;
         at += 1;
     }
-    ended(End::Done, at as u64, returns, machine(registers, core))
+    let end = End::Done;
+    let microcycles = Microcycles { count: at as u64 };
+    let steps = Steps { count: returns };
+    Ran {
+        end: end,
+        microcycles: microcycles,
+        steps: steps,
+        machine: machine(registers, core),
+    }
 }
 
 // The state after the last completed microcycle; with none completed, the state as lent.

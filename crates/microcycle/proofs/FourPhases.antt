@@ -21,14 +21,6 @@ module _ (urom mem : List ℕ) (p : PhaseMachine) (request : ℕ) where
   unfolding phase-one phase-two phase-three phase-four next-mpc microcycle next-address
   four-phases = refl
 
-  pub same-next : next-mpc (three-phases urom p request) ≡ next-address urom (seen p) request
-  unfolding phase-one phase-two phase-three next-mpc next-address
-  same-next = refl
-
-  pub same-store : phase-store (three-phases urom p request) ≡ micro-store urom (seen p)
-  unfolding phase-one phase-two phase-three phase-store micro-store
-  same-store = refl
-
 -- The same for four phase steps in a row, from phase number 0 and by the phase numbers, in both outcomes. Only the first request counts;
 -- no earlier phase can be refused 8 or stores; the fourth is refused 8 exactly when the microcycle is.
 module _ (urom mem : List ℕ) (p : PhaseMachine) (begins : p .phase ≡ 0) (r₁ r₂ r₃ r₄ : ℕ) where

@@ -97,8 +97,9 @@ pub fn perform(memory: &[u32], word: u64, core: Core, read: Read, next: u32) -> 
     let system = results::system(memory, m, dest, psw, result, old);
     let register = results::written_register(m.trgt, psw.sm, dest);
     let store = results::store(m, mar, core.mbr);
+    let next_psw = results::psw(m, out, psw);
     let after = Core {
-        psw: results::psw(m, out, psw),
+        psw: next_psw,
         pc: system.pc,
         ir: system.ir,
         mar: system.mar,

@@ -1,5 +1,5 @@
--- A lent control store: the word at an address, and its test (the scope's numbers 4 and 5). Its length is above the fetch address and at most what a 6-bit counter
--- can name (section 5.2.2, pp. 103-110); of its words the lowest that is not legal counts. Assumes nothing.
+-- A lent control store: the word at an address, and the test of all (the scope's numbers 4 and 5). Its length is above the fetch address
+-- and at most what a 6-bit counter can name (section 5.2.2, pp. 103-110); of its words the lowest that is not legal counts. Assumes nothing.
 use Prim.Native.Nat.{ℕ, _^_}
 use mathlib.Core.Bool.{Bool, cond, not, _&&_}
 use mathlib.Core.List.{List}

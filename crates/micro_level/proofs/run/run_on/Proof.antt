@@ -32,8 +32,7 @@ loop-holds c = (search needs, search needs, refl, refl)
 
 returns : tie.Need-returns Inv-loop μ-loop
 returns c =
-    let joined = c .before in
-    let went = joined .before .before .before .before .before in
+    let went = c .before .before .before .before .before in
     let looped = went .before .before .before .before .before in
     let turn = looped .loop in
     let args = looped .before .before .before .before .before .before .args in
@@ -41,13 +40,13 @@ returns c =
     begins (args .program .now) (args .memory .now) (args .requests .now) (args .s) (looped .before .core-of .ensures)
     ∙ turn .inv .3
     ∙ stop (args .program .now) (turn .memory) (turn .registers) (turn .core) (turn .at) (turn .returns) (args .requests .now) (turn .at) (search needs)
-    (went .advance .ensures) (joined .before .if1 .taken) in
-    (c .ended .ensures ∙ rw (joined .machine .ensures) (sym (ap (λ (r : RanOn). r .ran) ran)), sym (ap (λ (r : RanOn). r .memory) ran))
+    (went .advance .ensures) (c .before .if1 .taken) in
+    (rw (c .machine .ensures) (sym (ap (λ (r : RanOn). r .ran) ran)), sym (ap (λ (r : RanOn). r .memory) ran))
 
 -- the search does not look as far back as the loop's facts, so they are handed to it
 same-length : tie.Need-same-length Inv-loop μ-loop
 same-length c =
-    let known = c .before .before .before .before in
+    let known = c .before .before .before in
     let looped = known .before .before .before .before .before .before .before in
     search (needs, looped .loop .inv .2, known .slice-known2 .given)
 
@@ -80,15 +79,14 @@ loop-again c =
 
 returns-2 : tie.Need-returns-2 Inv-loop μ-loop
 returns-2 c =
-    let joined = c .before in
-    let looped = joined .before .before in
+    let looped = c .before .before in
     let turn = looped .loop in
     let args = looped .before .before .before .before .before .before .args in
     let ran =
     begins (args .program .now) (args .memory .now) (args .requests .now) (args .s) (looped .before .core-of .ensures)
     ∙ turn .inv .3
     ∙ over (args .program .now) (turn .memory) (machine (turn .registers) (turn .core)) (turn .at) (turn .returns) (args .requests .now) (turn .at) (omega arith) in
-    (c .ended2 .ensures ∙ rw (joined .machine2 .ensures) (sym (ap (λ (r : RanOn). r .ran) ran)), sym (ap (λ (r : RanOn). r .memory) ran))
+    (rw (c .machine2 .ensures) (sym (ap (λ (r : RanOn). r .ran) ran)), sym (ap (λ (r : RanOn). r .memory) ran))
 
 pub run-on-spec : {M : Type 1} → statement M
 run-on-spec =
@@ -101,7 +99,6 @@ run-on-spec =
     (λ c. search needs)
     (λ c κs. search needs)
     (λ c κs. search needs)
-    (λ c κs. search needs)
     same-length
     returns
     (λ c. search needs)
@@ -109,7 +106,6 @@ run-on-spec =
     add-at
     (λ c. search needs)
     loop-again
-    (λ c κs. search needs)
     (λ c κs. search needs)
     (λ c. search needs)
     returns-2)
