@@ -1,7 +1,13 @@
 # What a script needs and is not here is installed with apt-get; where that can't be done, the script that reads this file ends with 77.
 
+. tests/host/alone.bash
+
+update_and_install() { # PACKAGE..
+    apt-get update && DEBIAN_FRONTEND=noninteractive apt-get install -y --no-install-recommends "$@"
+}
+
 install_packages() { # PACKAGE..
-    { apt-get update && DEBIAN_FRONTEND=noninteractive apt-get install -y --no-install-recommends "$@"; } >/dev/null 2>&1
+    alone update_and_install "$@" >/dev/null 2>&1
 }
 
 install_or_skip() { # COMMAND PACKAGE..

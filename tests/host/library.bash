@@ -4,6 +4,8 @@
 #
 # SCHOONLEECH_LIB  an archive to use instead of the proved one; rt is then not run
 
+. tests/host/alone.bash
+
 library=${SCHOONLEECH_LIB:-target/staticlib/libgrader.a}
 
 # What is another file where the kit is another one: rt's name on the PATH, which may be a link, the file it leads to, and the kit's
@@ -28,15 +30,18 @@ library_is_fresh() {
 }
 
 # An archive is as old as its beginning, so that a change during the proof makes it stale.
-prove_library() {
+prove_if_stale() {
     local began status
-    [ -z "${SCHOONLEECH_LIB:-}" ] || return 0
     library_is_fresh && return 0
     began=$(mktemp)
     rt staticlib grader && touch -r "$began" "$library"
     status=$?
     rm -f "$began"
     return $status
+}
+
+prove_library() {
+    [ -n "${SCHOONLEECH_LIB:-}" ] || alone prove_if_stale
 }
 
 [ -n "${SCHOONLEECH_LIB:-}" ] || command -v rt >/dev/null || { echo "the Rattle kit's rt is not on the PATH"; exit 77; }

@@ -10,8 +10,8 @@ use Rattle.answers.proofs.OneNumberAnEnd.{only-done-is-done}
 use Rattle.images.specs.declared.Written.{Written}
 use Rattle.images.specs.Reading.{read-answer}
 use Rattle.images.specs.Writing.{write-answer}
-use Rattle.calls.specs.declared.Answer.{Answer}
-use Rattle.calls.specs.Answers.{answered}
+use Rattle.lending.specs.declared.Answer.{Answer}
+use Rattle.lending.specs.Answers.{answered}
 use Rattle.calls.specs.Images.{avm-read, avm-write}
 
 pub read-shown : (memory text : List ℕ) {end : End} {r : Answer} → end ≡ read-answer memory text →

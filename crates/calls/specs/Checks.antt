@@ -5,8 +5,8 @@ use mathlib.Core.List.{List}
 use Prim.Native.Nat.{ℕ}
 use Rattle.walks.specs.declared.Checked.{Checked}
 use Rattle.walks.specs.Meaning.{Meant}
-use Rattle.calls.specs.declared.Answer.{Answer}
-use Rattle.calls.specs.Answers.{answered}
+use Rattle.lending.specs.declared.Answer.{Answer}
+use Rattle.lending.specs.Answers.{answered}
 
 -- an answer that the walks of the microprogram ask for, as the call shows it
 pub record CheckAnswer (program : List ℕ) (r : Answer) : Type 0 where

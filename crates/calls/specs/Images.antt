@@ -7,8 +7,8 @@ use Rattle.answers.specs.Ends.{shown, is-done}
 use Rattle.images.specs.declared.Written.{Written}
 use Rattle.images.specs.Reading.{read-answer}
 use Rattle.images.specs.Writing.{write-answer}
-use Rattle.calls.specs.declared.Answer.{Answer}
-use Rattle.calls.specs.Answers.{answered}
+use Rattle.lending.specs.declared.Answer.{Answer}
+use Rattle.lending.specs.Answers.{answered}
 
 unfoldable pub avm-read : List ℕ → List ℕ → Answer
 avm-read memory text = answered (read-answer memory text) (record { count = 0 }) (record { count = 0 })

@@ -1,4 +1,3 @@
--- What the C calls answer, and what those answer that need no machine.
-pub mod Answers
+-- What the C calls answer that need no machine.
 pub mod Checks
 pub mod Images

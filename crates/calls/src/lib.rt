@@ -1,52 +1,14 @@
-// What a C call answers, and the calls that need no machine: the check of a microprogram, and images
-// read and written. Apart from the grader, which exports them, so that checking them is quick.
+// The C calls that need no machine: the check of a microprogram, and images read and written. Apart
+// from the grader, which exports them, so that checking them is quick.
 ghost use mathlib.Core.Path.{_≡_};
 ghost use Rattle.images.specs.Reading.{memory-after};
 ghost use Rattle.images.specs.Writing.{room-after};
-ghost use Rattle.calls.specs.Answers.{refused, answered};
 ghost use Rattle.calls.specs.Checks.{CheckAnswer};
 ghost use Rattle.calls.specs.Images.{avm-read, avm-write};
-use answers::End;
 use answers::Microcycles;
 use answers::Steps;
-
-// avm_answer of the header.
-#[repr(C)]
-pub struct Answer {
-    pub number: u64,
-    pub at: u64,
-    pub microcycles: Microcycles,
-    pub steps: Steps,
-}
-
-// A refusal that has nothing with it.
-pub fn refuse(number: u64) -> Answer
-    ensures { λ r. ⌜ r ≡ refused number ⌝ }
-{
-    let microcycles = Microcycles { count: 0 };
-    let steps = Steps { count: 0 };
-    Answer {
-        number: number,
-        at: 0,
-        microcycles: microcycles,
-        steps: steps,
-    }
-}
-
-// An end by its number, with the two clocks.
-pub fn answer_of(end: End, microcycles: Microcycles, steps: Steps) -> Answer
-    ensures { λ r. ⌜ r ≡ answered end microcycles steps ⌝ }
-{
-    let shown = answers::shown(end);
-    let number = shown.number;
-    let at = shown.at;
-    Answer {
-        number: number,
-        at: at,
-        microcycles: microcycles,
-        steps: steps,
-    }
-}
+use lending::Answer;
+use lending::answer_of;
 
 // Checks a microprogram without running it.
 pub fn check(program: &[u64]) -> Answer

@@ -1,4 +1,4 @@
-// Where the result goes: the PSW, the registers, PC and MBR after a microcycle.
+// Where the result goes: the PSW, the registers, the system registers and memory after a microcycle.
 ghost use mathlib.Core.Path.{_≡_};
 ghost use Rattle.datapath.specs.Results.{psw-lines, quiet, target-register, written-register};
 ghost use Rattle.datapath.specs.Results.{new-psw, new-reg, new-pc, new-mbr, new-system, new-store};

@@ -12,7 +12,7 @@ ghost use Rattle.lending.specs.Lending.{found};
 ghost use Rattle.run_call.specs.Runs.{avm-run};
 ghost use Rattle.steps_call.specs.Steps.{avm-steps};
 ghost use Rattle.phase_call.specs.Phase.{phase-found, avm-phase};
-use calls::Answer;
+use lending::Answer;
 
 #[no_mangle]
 pub extern "C" fn avm_run(

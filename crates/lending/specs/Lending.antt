@@ -1,13 +1,13 @@
 -- Registers that a C call lends as a list. Only here can their number be wrong, so only these calls answer 2, between 1 and 3. Where it is
--- wrong nothing is taken and nothing given back; a call that passed the tests takes and gives all 32. Assumes nothing.
+-- wrong zeros are taken and nothing is given back; a call that passed the tests takes and gives all 32. Assumes nothing.
 use Prim.Native.Nat.{ℕ}
 use mathlib.Core.Bool.{cond}
 use mathlib.Core.List.{List}
 use lib.Dec.{eqb}
 use lib.ListN.{length, replicate}
 use Rattle.words.specs.Lengths.{legal-length}
-use Rattle.calls.specs.declared.Answer.{Answer}
-use Rattle.calls.specs.Answers.{refused}
+use Rattle.lending.specs.declared.Answer.{Answer}
+use Rattle.lending.specs.Answers.{refused}
 
 -- registers that a call is lent
 abbrev pub register-count : ℕ

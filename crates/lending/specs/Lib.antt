@@ -1,2 +1,3 @@
--- What is lent as a list, and what a call leaves.
+-- What a C call answers; what it is lent as a list, and what it leaves.
+pub mod Answers
 pub mod Lending

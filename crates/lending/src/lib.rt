@@ -1,8 +1,50 @@
-// Registers that a C call lends as a list: the two tests that come before all others, and the way in
-// and out. Every function is total; specs/ says what each answers.
+// What a C call answers, and the registers that it is lent as a list: the two tests that come before
+// all others, and the way in and out. Every function is total; specs/ says what each answers.
 ghost use mathlib.Core.Path.{_≡_};
 ghost use lib.ListN.{length};
+ghost use Rattle.lending.specs.Answers.{refused, answered};
 ghost use Rattle.lending.specs.Lending.{first-test, taken, given};
+use answers::End;
+use answers::Microcycles;
+use answers::Steps;
+
+// avm_answer of the header.
+#[repr(C)]
+pub struct Answer {
+    pub number: u64,
+    pub at: u64,
+    pub microcycles: Microcycles,
+    pub steps: Steps,
+}
+
+// A refusal that has nothing with it.
+pub fn refuse(number: u64) -> Answer
+    ensures { λ r. ⌜ r ≡ refused number ⌝ }
+{
+    let microcycles = Microcycles { count: 0 };
+    let steps = Steps { count: 0 };
+    Answer {
+        number: number,
+        at: 0,
+        microcycles: microcycles,
+        steps: steps,
+    }
+}
+
+// An end by its number, with the two clocks.
+pub fn answer_of(end: End, microcycles: Microcycles, steps: Steps) -> Answer
+    ensures { λ r. ⌜ r ≡ answered end microcycles steps ⌝ }
+{
+    let shown = answers::shown(end);
+    let number = shown.number;
+    let at = shown.at;
+    Answer {
+        number: number,
+        at: at,
+        microcycles: microcycles,
+        steps: steps,
+    }
+}
 
 // The number of the first test that fails, 0 where none does.
 pub fn test(words: usize, count: usize) -> u64

@@ -11,8 +11,8 @@ use Rattle.phase_level.specs.declared.machine.PhaseState.{PhaseState}
 use Rattle.phase_level.specs.declared.call.PhaseAnswer.{PhaseAnswer}
 use Rattle.phase_level.specs.Call.{phase-call}
 use Rattle.phase_level.proofs.PhaseCalls.{as-lent}
-use Rattle.calls.specs.declared.Answer.{Answer}
-use Rattle.calls.specs.Answers.{refused}
+use Rattle.lending.specs.declared.Answer.{Answer}
+use Rattle.lending.specs.Answers.{refused}
 use Rattle.lending.specs.Lending.{first-test, taken, given}
 use Rattle.lending.proofs.Fitting.{taken-whole, given-whole}
 use Rattle.phase_call.specs.Phase.{phase-state, phase-words, latch-words, phase-found, uncounted, avm-phase}

@@ -9,8 +9,8 @@ use Rattle.answers.specs.declared.End.{End}
 use Rattle.answers.specs.Ends.{is-done}
 use Rattle.phase_level.specs.declared.machine.PhaseState.{PhaseState}
 use Rattle.phase_level.specs.Call.{PhaseCalled, phase-call}
-use Rattle.calls.specs.declared.Answer.{Answer}
-use Rattle.calls.specs.Answers.{refused, answered}
+use Rattle.lending.specs.declared.Answer.{Answer}
+use Rattle.lending.specs.Answers.{refused, answered}
 use Rattle.lending.specs.Lending.{first-test}
 
 -- a phase state from the state words, the latch words (A latch, B latch, request, acknowledge; the last two count as set when not 0), MIR

@@ -4,9 +4,9 @@ ghost use mathlib.Core.Path.{_≡_};
 ghost use Rattle.phase_call.specs.Phase.{phase-state, phase-words, latch-words, phase-found, avm-phase};
 use answers::Microcycles;
 use answers::Steps;
-use calls::Answer;
-use calls::answer_of;
-use calls::refuse;
+use lending::Answer;
+use lending::answer_of;
+use lending::refuse;
 use phase_level::machine::PhaseState;
 
 // A phase state from everything that a phase call is lent for it.

@@ -23,15 +23,15 @@ use Rattle.phases.specs.Phases.{interrupt}
 use Rattle.phase_level.specs.Tests.{machine-test}
 use Rattle.microcycle.specs.declared.MicroMachine.{MicroMachine}
 use Rattle.microcycle.specs.Microcycle.{microcycle, micro-store}
-use Rattle.micro_level.specs.declared.machine.MicroState.{MicroState}
-use Rattle.micro_level.specs.Machine.{taken, given}
-use Rattle.micro_level.specs.Run.{RanOn, MicroCalled, at-fetch, bad-request, run-on, run}
+use Rattle.runs.specs.declared.MicroState.{MicroState}
+use Rattle.runs.specs.Machine.{taken, given}
+use Rattle.runs.specs.Run.{RanOn, MicroCalled, at-fetch, bad-request, run-on, run}
 use Rattle.phase_level.proofs.TestsInOrder.{machine-refused}
-use Rattle.micro_level.proofs.RunTests.{Fine, lent-refused as micro-lent}
-use Rattle.micro_level.proofs.RunCalls.{refused as micro-call}
+use Rattle.runs.proofs.RunTests.{Fine, lent-refused as micro-lent}
+use Rattle.runs.proofs.RunCalls.{refused as micro-call}
 use Rattle.macro_level.proofs.RunTests.{lent-refused as macro-lent}
 use Rattle.macro_level.proofs.RunCalls.{refused as macro-call}
-use Rattle.micro_level.proofs.RunsInARow.{as-run}
+use Rattle.runs.proofs.RunsInARow.{as-run}
 use Rattle.macro_level.specs.Machine.{given as macro-given}
 use Rattle.macro_level.specs.Step.{Macro}
 use Rattle.macro_level.specs.Run.{MacroCalled, most-request, macro-test, macro-done, run as macro-run}

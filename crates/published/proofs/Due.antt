@@ -11,7 +11,7 @@ use Rattle.microwords.specs.Sequencer.{fetch-address}
 use Rattle.phases.specs.Phases.{interrupt}
 use Rattle.microcycle.specs.declared.MicroMachine.{MicroMachine}
 use Rattle.microcycle.specs.Microcycle.{microcycle, micro-store}
-use Rattle.micro_level.specs.Run.{at-fetch}
+use Rattle.runs.specs.Run.{at-fetch}
 use Rattle.macro_level.specs.Step.{Macro, step}
 use Rattle.published.specs.Listing.{published}
 use Rattle.published.specs.Clocks.{macro-machine, shows, key, cycles}

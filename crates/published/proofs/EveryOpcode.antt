@@ -28,7 +28,7 @@ use Rattle.microwords.specs.ControlStore.{word-at}
 use Rattle.phases.specs.Phases.{interrupt}
 use Rattle.microcycle.specs.declared.MicroMachine.{MicroMachine}
 use Rattle.microcycle.specs.Microcycle.{microcycle, micro-store, next-address}
-use Rattle.micro_level.specs.Run.{at-fetch}
+use Rattle.runs.specs.Run.{at-fetch}
 use Rattle.instructions.specs.Effects.{inc}
 use Rattle.instructions.specs.Instructions.{jmp, call, interrupted, rti, rtn, gpsw, ppsw, ld, st, shift, arithmetic, logic, noop, computation, effect, eint-key}
 use Rattle.macro_level.specs.declared.machine.MacroMachine.{MacroMachine}

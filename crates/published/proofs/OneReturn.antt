@@ -14,7 +14,7 @@ use mir.Val.{boolByte as num}
 use Rattle.answers.specs.declared.End.the-variants.{Done}
 use Rattle.phases.specs.Phases.{interrupt}
 use Rattle.microcycle.specs.declared.MicroMachine.{MicroMachine}
-use Rattle.micro_level.specs.Run.{RanOn, at-fetch, run-on}
+use Rattle.runs.specs.Run.{RanOn, at-fetch, run-on}
 use Rattle.macro_level.specs.Step.{Macro, step}
 use Rattle.instructions.specs.Instructions.{eint-key}
 use Rattle.published.specs.Listing.{published}

@@ -22,7 +22,7 @@ use Rattle.phase_level.specs.Call.{leaves}
 use Rattle.microcycle.specs.Machine.{seen}
 use Rattle.microcycle.specs.Microcycle.{microcycle, micro-store}
 use Rattle.microcycle.proofs.FourPhases.{first, second, third, fourth, done-alike, stored-alike, begins-again, nothing-stored-earlier}
-use Rattle.micro_level.specs.Run.{RanOn, at-fetch, run-on}
+use Rattle.runs.specs.Run.{RanOn, at-fetch, run-on}
 use Rattle.published.specs.Listing.{published}
 use Rattle.published.specs.Clocks.{shows, steps-of, heard, Phased, phased, phases}
 use Rattle.published.proofs.NeverLeaves.{sixty-four}

@@ -15,8 +15,8 @@ use Rattle.blocks.specs.Memory.{applied}
 use Rattle.phases.specs.Phases.{interrupt}
 use Rattle.microcycle.specs.declared.MicroMachine.{MicroMachine}
 use Rattle.microcycle.specs.Microcycle.{microcycle, micro-store}
-use Rattle.micro_level.specs.Run.{RanOn, at-fetch, run-on}
-use Rattle.micro_level.proofs.RunJoins.{counted, counts-added}
+use Rattle.runs.specs.Run.{RanOn, at-fetch, run-on}
+use Rattle.runs.proofs.RunJoins.{counted, counts-added}
 use Rattle.macro_level.specs.Step.{Macro, step}
 use Rattle.macro_level.specs.Run.{up, steps}
 use Rattle.published.specs.Listing.{published}

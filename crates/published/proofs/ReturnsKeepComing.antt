@@ -9,8 +9,8 @@ use lib.ListN.{length}
 use mir.Val.{boolByte as num}
 use Rattle.words.proofs.FlagNumbers.{num-le}
 use Rattle.microcycle.specs.declared.MicroMachine.{MicroMachine}
-use Rattle.micro_level.specs.Run.{RanOn, at-fetch, run-on}
-use Rattle.micro_level.proofs.RunJoins.{counts-added}
+use Rattle.runs.specs.Run.{RanOn, at-fetch, run-on}
+use Rattle.runs.proofs.RunJoins.{counts-added}
 use Rattle.macro_level.specs.Step.{Macro}
 use Rattle.published.specs.Listing.{published}
 use Rattle.published.specs.Clocks.{shows, key}

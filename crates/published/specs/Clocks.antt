@@ -11,8 +11,8 @@ use Rattle.phases.specs.Phases.{interrupt}
 use Rattle.phase_level.specs.Call.{phase-done, stores}
 use Rattle.microcycle.specs.declared.MicroMachine.{MicroMachine}
 use Rattle.microcycle.specs.Microcycle.{microcycle, micro-store}
-use Rattle.micro_level.specs.declared.machine.MicroState.{MicroState}
-use Rattle.micro_level.specs.Run.{at-fetch}
+use Rattle.runs.specs.declared.MicroState.{MicroState}
+use Rattle.runs.specs.Run.{at-fetch}
 use Rattle.instructions.specs.Instructions.{eint-key}
 use Rattle.macro_level.specs.declared.machine.MacroState.{MacroState}
 use Rattle.macro_level.specs.declared.machine.MacroMachine.{MacroMachine}

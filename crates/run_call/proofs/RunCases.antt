@@ -4,11 +4,11 @@ use mathlib.Core.Path.{_≡_, sym, _∙_}
 use mathlib.Core.List.{List}
 use lib.ListN.{length}
 use borrow.Author.Tests.{eq-eqb, ne-eqb}
-use Rattle.micro_level.specs.declared.machine.MicroState.{MicroState}
-use Rattle.micro_level.specs.declared.run.MicroAnswer.{MicroAnswer}
-use Rattle.micro_level.specs.Run.{run}
-use Rattle.calls.specs.declared.Answer.{Answer}
-use Rattle.calls.specs.Answers.{refused, answered}
+use Rattle.runs.specs.declared.MicroState.{MicroState}
+use Rattle.runs.specs.declared.MicroAnswer.{MicroAnswer}
+use Rattle.runs.specs.Run.{run}
+use Rattle.lending.specs.declared.Answer.{Answer}
+use Rattle.lending.specs.Answers.{refused, answered}
 use Rattle.lending.specs.Lending.{first-test, taken, given, found}
 use Rattle.lending.proofs.Fitting.{taken-whole, given-whole}
 use Rattle.run_call.specs.Runs.{micro-state, state-words, avm-run}

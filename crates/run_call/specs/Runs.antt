@@ -2,9 +2,9 @@
 use Prim.Native.Nat.{ℕ}
 use mathlib.Core.List.{List, [], _∷_}
 use lib.ListN.{getD}
-use Rattle.micro_level.specs.declared.machine.MicroState.{MicroState}
-use Rattle.micro_level.specs.Run.{MicroCalled, run}
-use Rattle.calls.specs.Answers.{answered}
+use Rattle.runs.specs.declared.MicroState.{MicroState}
+use Rattle.runs.specs.Run.{MicroCalled, run}
+use Rattle.lending.specs.Answers.{answered}
 use Rattle.lending.specs.Lending.{Left, tested-first}
 
 -- the state words in the header's order: PSW, PC, IR, MAR, MBR, MPC, vector

@@ -3,10 +3,10 @@
 ghost use mathlib.Core.Path.{_≡_};
 ghost use Rattle.lending.specs.Lending.{found};
 ghost use Rattle.run_call.specs.Runs.{micro-state, state-words, avm-run};
-use calls::Answer;
-use calls::answer_of;
-use calls::refuse;
-use micro_level::machine::MicroState;
+use lending::Answer;
+use lending::answer_of;
+use lending::refuse;
+use runs::MicroState;
 
 // A state from the registers and the state words.
 fn micro_state(registers: [u32; 32], state: &[u32; 7]) -> MicroState
@@ -47,7 +47,7 @@ pub fn run(
         return refuse(number);
     }
     let lent = micro_state(lending::take(registers), state);
-    let called = micro_level::run::run(program, memory, lent, requests);
+    let called = micro_level::run(program, memory, lent, requests);
     let end = called.end;
     let microcycles = called.microcycles;
     let steps = called.steps;

@@ -7,8 +7,8 @@ use borrow.Author.Tests.{eq-eqb, ne-eqb}
 use Rattle.macro_level.specs.declared.machine.MacroState.{MacroState}
 use Rattle.macro_level.specs.declared.run.MacroAnswer.{MacroAnswer}
 use Rattle.macro_level.specs.Run.{run}
-use Rattle.calls.specs.declared.Answer.{Answer}
-use Rattle.calls.specs.Answers.{refused, answered}
+use Rattle.lending.specs.declared.Answer.{Answer}
+use Rattle.lending.specs.Answers.{refused, answered}
 use Rattle.lending.specs.Lending.{first-test, taken, given, found}
 use Rattle.lending.proofs.Fitting.{taken-whole, given-whole}
 use Rattle.steps_call.specs.Steps.{macro-state, macro-words, avm-steps}

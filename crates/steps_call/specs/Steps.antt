@@ -4,7 +4,7 @@ use mathlib.Core.List.{List, [], _∷_}
 use lib.ListN.{getD}
 use Rattle.macro_level.specs.declared.machine.MacroState.{MacroState}
 use Rattle.macro_level.specs.Run.{MacroCalled, run}
-use Rattle.calls.specs.Answers.{answered}
+use Rattle.lending.specs.Answers.{answered}
 use Rattle.lending.specs.Lending.{Left, tested-first}
 
 -- PSW, PC and vector are taken from the state words

@@ -4,9 +4,9 @@ ghost use mathlib.Core.Path.{_≡_};
 ghost use Rattle.lending.specs.Lending.{found};
 ghost use Rattle.steps_call.specs.Steps.{macro-state, macro-words, avm-steps};
 use answers::Microcycles;
-use calls::Answer;
-use calls::answer_of;
-use calls::refuse;
+use lending::Answer;
+use lending::answer_of;
+use lending::refuse;
 use macro_level::machine::MacroState;
 
 // What the macro level sees of the registers and the state words.

@@ -25,12 +25,12 @@ use Rattle.microwords.specs.ControlStore.{word-at}
 use Rattle.phases.specs.Phases.{interrupt}
 use Rattle.microcycle.specs.declared.MicroMachine.{MicroMachine}
 use Rattle.microcycle.specs.Microcycle.{next-address, microcycle, micro-store, leaves}
-use Rattle.micro_level.specs.declared.machine.MicroState.{MicroState}
-use Rattle.micro_level.specs.Machine.{taken}
-use Rattle.micro_level.specs.Run.{RanOn, at-fetch, run-on, MicroCalled, micro-test, answered, micro-refused, run}
-use Rattle.micro_level.proofs.RunInduction.{goes-on}
-use Rattle.micro_level.proofs.RunJoins.{joined}
-use Rattle.micro_level.proofs.TestNumbers.{at-most-7}
+use Rattle.runs.specs.declared.MicroState.{MicroState}
+use Rattle.runs.specs.Machine.{taken}
+use Rattle.runs.specs.Run.{RanOn, at-fetch, run-on, MicroCalled, micro-test, answered, micro-refused, run}
+use Rattle.runs.proofs.RunInduction.{goes-on}
+use Rattle.runs.proofs.RunJoins.{joined}
+use Rattle.runs.proofs.TestNumbers.{at-most-7}
 use Rattle.walks.specs.Walks.{PossibleNext, UnderWay, Walk}
 use Rattle.walks.specs.Walks.UnderWay.{begun, on}
 use Rattle.walks.specs.Walks.Walk.{returned}

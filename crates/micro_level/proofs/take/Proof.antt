@@ -1,0 +1,10 @@
+-- The PSW is what its call ensures.
+use borrow.Author.Needs.{needs}
+use Rattle.micro_level.proofs.take.Statement.{statement}
+use Rattle.micro_level.proofs.take.Tie as tie
+
+returns : tie.Need-returns
+returns c = rw (c .from-word .ensures)
+
+pub take-spec : {M : Type 1} → statement M
+take-spec = tie.close (tie.spec (λ c κs. search needs) returns)
