@@ -2,6 +2,8 @@
 
 #include <string.h>
 
+enum { PSW_MOST = 63 }; /* six bits */
+
 /* The parts before PART_REGISTER. The request latch has no place in the state block. */
 static const struct {
     const char *name;
@@ -10,6 +12,7 @@ static const struct {
 } single[PART_REGISTER] = {
     {"pc", AVM_PC, UINT32_MAX},
     {"psw", AVM_PSW, PSW_MOST},
+    {"ivec", AVM_IVEC, UINT32_MAX},
     {"ir", AVM_IR, UINT32_MAX},
     {"mar", AVM_MAR, UINT32_MAX},
     {"mbr", AVM_MBR, UINT32_MAX},
@@ -43,7 +46,9 @@ uint32_t part_most(size_t part)
 
 static bool on_clock(size_t part, enum clock clock)
 {
-    return clock == MICROCYCLES || part < PART_IR || part >= PART_REGISTER;
+    if (part == PART_IVEC)
+        return false;
+    return clock == MICROCYCLES || part < PART_SETTINGS || part >= PART_REGISTER;
 }
 
 /* A letter and then a number from the least to the most. */
@@ -72,6 +77,13 @@ bool part_named(struct word word, enum clock clock, size_t m, size_t *part)
     else
         return false;
     return true;
+}
+
+bool setting_named(struct word word, size_t *part)
+{
+    for (*part = 0; *part < PART_SETTINGS && !word_is(word, single[*part].name); ++*part)
+        continue;
+    return *part < PART_SETTINGS;
 }
 
 const char *log_name(size_t part, char room[TOLD_ROOM])

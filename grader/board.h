@@ -18,14 +18,15 @@ struct board {
     uint32_t ireq; /* the request latch: no part of what avm_run is lent, since every microcycle latches its own request byte */
 };
 
-enum { PSW_MOST = 63 }; /* six bits */
-
 /* The two clocks on which a log is kept. A fetch point shows what a programmer sees, a microcycle all parts. */
 enum clock { FETCH_POINTS, MICROCYCLES };
 
-/* A part is one of these numbers, or PART_REGISTER + a register's number, or PART_MEMORY + a word's. */
+/* A part is one of these numbers, or PART_REGISTER + a register's number, or PART_MEMORY + a word's. The first three are settings of a
+   request log. IVEC is on neither clock, since no call changes it. */
 enum {
-    PART_PC, PART_PSW, PART_IR, PART_MAR, PART_MBR, PART_MPC, PART_IREQ,
+    PART_PC, PART_PSW, PART_IVEC,
+    PART_SETTINGS,
+    PART_IR = PART_SETTINGS, PART_MAR, PART_MBR, PART_MPC, PART_IREQ,
     PART_REGISTER,
     PART_MEMORY = PART_REGISTER + AVM_REGISTERS,
     PARTS = PART_MEMORY + AVM_WORDS_MOST
@@ -37,6 +38,9 @@ uint32_t part_most(size_t part); /* the highest value that it can have */
 
 /* The part with that name in a log, such as pc, r8 or m12, if a board with m words of memory shows it on the clock. */
 bool part_named(struct word word, enum clock clock, size_t m, size_t *part);
+
+/* The part with that name as a setting: pc, psw or ivec. */
+bool setting_named(struct word word, size_t *part);
 
 enum { TOLD_ROOM = 20 };
 

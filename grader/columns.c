@@ -86,7 +86,8 @@ static void mark_other_points(struct columns *columns)
         print_row(columns, "");
     }
     if (points > tally->expected && !columns->brief) {
-        snprintf(columns->mark, sizeof columns->mark, "from %llu to %llu: not in the log", (unsigned long long)tally->expected + 1, points);
+        snprintf(columns->mark, sizeof columns->mark, "from %llu to %llu: not in the log", (unsigned long long)tally->expected + 1,
+                 points);
         print_row(columns, "");
     }
 }

@@ -27,7 +27,7 @@ static bool judge_change(struct judging *judging, enum clock clock, struct word 
     if (judging->named_in[part] == judging->cursor.line)
         return unexpected(&judging->cursor, &word, judging->complaint, "each part once in a line");
     judging->named_in[part] = (uint32_t)judging->cursor.line;
-    return take_number(&judging->cursor, "a number", 0, part_most(part), &value, judging->complaint);
+    return take_number(&judging->cursor, "number", 0, part_most(part), &value, judging->complaint);
 }
 
 static bool judge_line(struct judging *judging, struct expected *expected)

@@ -6,15 +6,17 @@ static bool read_words(const struct text *text, struct microprogram *program, st
 {
     struct cursor cursor = start_of(text);
     struct word word;
+    uint64_t microword;
 
     for (program->count = 0; next_line(&cursor) && next_word(&cursor, &word); program->count++) {
-        if (program->count == PROGRAM_ROOM)
-            return unexpected(&cursor, &word, complaint, "at most %d microwords", PROGRAM_ROOM);
-        if (!word_is_hexadecimal(word, &program->words[program->count]))
+        if (!word_is_hexadecimal(word, &microword))
             return unexpected(&cursor, &word, complaint, "a microword of 1 to 16 hexadecimal digits");
         if (!take_line_end(&cursor, complaint))
             return false;
-        program->lines[program->count] = cursor.line;
+        if (program->count < PROGRAM_ROOM) {
+            program->words[program->count] = microword;
+            program->lines[program->count] = cursor.line;
+        }
     }
     return true;
 }
@@ -29,7 +31,7 @@ static size_t refused_line(const struct microprogram *program, avm_answer answer
 
 static bool check_words(const struct text *text, struct microprogram *program, struct complaint *complaint)
 {
-    avm_answer answer = avm_check(program->words, program->count);
+    avm_answer answer = avm_check(program->words, program->count < PROGRAM_ROOM ? program->count : PROGRAM_ROOM);
     char words[WORDS_ROOM];
 
     program->longest = answer.microcycles;

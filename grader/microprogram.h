@@ -5,13 +5,13 @@
 #include "schoonleech.h"
 #include "text.h"
 
-enum { PROGRAM_ROOM = 1024 }; /* more words than a legal microprogram has: whether they are too many is for avm_check to say */
+enum { PROGRAM_ROOM = AVM_PROGRAM_MOST + 1 }; /* one word too many: that they are too many is for avm_check to say */
 
 struct microprogram {
     uint64_t words[PROGRAM_ROOM];
     size_t lines[PROGRAM_ROOM]; /* of the file, on which the words stand */
-    size_t count;
-    avm_microcycles longest; /* walk from fetch back to fetch */
+    size_t count;               /* of the file; words beyond the room are counted and not kept */
+    avm_microcycles longest;    /* walk from fetch back to fetch */
 };
 
 /* Reads a microprogram and has avm_check accept it. */

@@ -63,8 +63,8 @@ static void tell_microword(size_t at, uint64_t word, char room[WORDS_ROOM])
     if (word >> 40 != 0)
         tell(room, AVM_BAD_MICROWORD, "expected no bit above 39 in word %zu, found 0x%llX", at, (unsigned long long)word);
     else
-        tell(room, AVM_BAD_MICROWORD, "expected a code from 0 to %u in field %s of word %zu, found %u", fields[k].most, fields[k].name, at,
-             field_of(word, &fields[k]));
+        tell(room, AVM_BAD_MICROWORD, "expected a code from 0 to %u in field %s of word %zu, found %u", fields[k].most, fields[k].name,
+             at, field_of(word, &fields[k]));
 }
 
 /* An address outside that a word can lead to, as avm_check counts its next addresses. */
@@ -109,13 +109,6 @@ static struct word line_at(const char *text, size_t bytes, uint64_t number)
             return line;
         line.start = feed + 1;
     }
-}
-
-static unsigned digit(char character)
-{
-    static const char digits[] = "0123456789ABCDEF0123456789abcdef";
-
-    return (unsigned)(strchr(digits, character) - digits) % 16;
 }
 
 /* Byte k of a line that is of record form: 0 is the count, 1 and 2 are the address, 3 is the type. */

@@ -82,8 +82,8 @@ void print_help(FILE *out)
           "Status  0 every mark is right\n"
           "        1 a mark is wrong; a fetch point that is not reached counts as wrong\n"
           "        2 the command line is not understood\n"
-          "        3 a file can't be read or is not of its form\n"
-          "        4 the microprogram is refused (numbers 4, 5, 17, 18)\n"
+          "        3 a file can't be read or is not of its form, or a run to record ends before its first fetch point\n"
+          "        4 the microprogram is refused (numbers 4, 5, 17, 18), or, against its promise, the library refuses a microcycle\n"
           "        5 the output can't be written\n"
           "\n"
           "docs/GRADER.md has the forms of the files, with examples.\n", out);

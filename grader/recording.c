@@ -33,11 +33,27 @@ static void record_point(FILE *out, const struct run *run, struct board *last)
             (unsigned long long)run->done.count, tell_step(run->step, step));
 }
 
+/* An expected log has at least one fetch point. Whether the run comes to one is tried beforehand, which takes no more than the longest
+   walk, so that nothing is printed where it does not. */
+static bool comes_to_a_point(struct run *run, const struct job *job, struct complaint *complaint)
+{
+    start_run(run, &job->program, &job->requests);
+    while (next_microcycle(run) && !run->at_fetch_point)
+        continue;
+    if (run->at_fetch_point)
+        return true;
+    return run_was_good(run, complaint) &&
+           complain(complaint, BAD_FILE, job->texts[REQUESTS].name, job->requests.until_line,
+                    "the run ends before its first fetch point, and a log needs one; let it run longer");
+}
+
 enum status record(FILE *out, const struct job *job, bool microcycles, struct complaint *complaint)
 {
     static struct run run;
     static struct board last_point, last_microcycle;
 
+    if (!comes_to_a_point(&run, job, complaint))
+        return complaint->status;
     last_point = last_microcycle = job->requests.start;
     start_run(&run, &job->program, &job->requests);
     fputs("# A line names what changed since the line of its kind before it; all that it does not name is as it was there.\n", out);

@@ -41,40 +41,29 @@ static bool read_register(struct reading *reading)
     struct word word;
 
     next_word(&before, &word);
-    if (!take_number(&reading->cursor, "a register", 1, AVM_REGISTERS - 1, &number, reading->complaint) ||
+    if (!take_number(&reading->cursor, "register", 1, AVM_REGISTERS - 1, &number, reading->complaint) ||
         !once(reading, &reading->registers, (unsigned)number, "register", word) ||
-        !take_number(&reading->cursor, "a number", 0, UINT32_MAX, &value, reading->complaint))
+        !take_number(&reading->cursor, "number", 0, UINT32_MAX, &value, reading->complaint))
         return false;
     reading->requests->start.registers[number] = (uint32_t)value;
     return true;
 }
 
-/* Settings of one number in the state block, by their places. */
-static const struct {
-    const char *name;
-    int place;
-    uint32_t most;
-} settings[] = {{"pc", AVM_PC, UINT32_MAX}, {"psw", AVM_PSW, PSW_MOST}, {"ivec", AVM_IVEC, UINT32_MAX}};
-
-enum { SETTINGS = sizeof settings / sizeof settings[0] };
-
 static bool read_setting(struct reading *reading, struct word word)
 {
     uint64_t value;
-    unsigned k;
+    size_t part;
 
     if (word_is(word, "words"))
-        return once(reading, &reading->settings, SETTINGS, "setting", word) && read_memory_length(reading);
+        return once(reading, &reading->settings, PART_SETTINGS, "setting", word) && read_memory_length(reading);
     if (word_is(word, "register"))
         return read_register(reading);
-    for (k = 0; k < SETTINGS && !word_is(word, settings[k].name); k++)
-        continue;
-    if (k == SETTINGS)
+    if (!setting_named(word, &part))
         return unexpected(&reading->cursor, &word, reading->complaint, "words, pc, psw, ivec, register, from or until");
-    if (!once(reading, &reading->settings, k, "setting", word) ||
-        !take_number(&reading->cursor, "a number", 0, settings[k].most, &value, reading->complaint))
+    if (!once(reading, &reading->settings, (unsigned)part, "setting", word) ||
+        !take_number(&reading->cursor, "number", 0, part_most(part), &value, reading->complaint))
         return false;
-    reading->requests->start.state[settings[k].place] = (uint32_t)value;
+    set_part(&reading->requests->start, part, (uint32_t)value);
     return true;
 }
 
@@ -94,8 +83,8 @@ static bool read_from(struct reading *reading)
     struct word word;
     uint8_t request;
 
-    if (!take_number(&reading->cursor, first ? "microcycle" : "a microcycle", reading->last_from + 1, first ? 1 : MICROCYCLES_MOST,
-                     &reading->last_from, reading->complaint))
+    if (!take_number(&reading->cursor, "microcycle", reading->last_from + 1, first ? 1 : MICROCYCLES_MOST, &reading->last_from,
+                     reading->complaint))
         return false;
     there = next_word(&reading->cursor, &word);
     return (there && word_is_request(word, &request)) ||
@@ -107,7 +96,8 @@ static bool read_until(struct reading *reading, struct word word)
     if (reading->last_from == 0)
         return unexpected(&reading->cursor, &word, reading->complaint, "a line 'from 1' before it");
     reading->ended = true;
-    return take_number(&reading->cursor, "a microcycle", reading->last_from, MICROCYCLES_MOST, &reading->requests->until.count,
+    reading->requests->until_line = reading->cursor.line;
+    return take_number(&reading->cursor, "microcycle", reading->last_from, MICROCYCLES_MOST, &reading->requests->until.count,
                        reading->complaint);
 }
 
@@ -119,6 +109,8 @@ static bool read_line(struct reading *reading, const struct cursor *before)
     next_word(&reading->cursor, &word);
     if (reading->ended)
         return unexpected(&reading->cursor, &word, reading->complaint, "nothing after until");
+    if (reading->last_from == MICROCYCLES_MOST && !word_is(word, "until"))
+        return unexpected(&reading->cursor, &word, reading->complaint, "until, since no microcycle comes after %d", MICROCYCLES_MOST);
     if (word_is(word, "from")) {
         if (reading->last_from == 0)
             reading->requests->first_from = *before;

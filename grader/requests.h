@@ -10,6 +10,7 @@ enum { MICROCYCLES_MOST = 1000000000 };
 struct requests {
     struct board start; /* all but what an image stores in its memory */
     avm_microcycles until;
+    size_t until_line;        /* that says so */
     struct cursor first_from; /* before the lines with from */
 };
 

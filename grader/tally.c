@@ -40,8 +40,8 @@ const char *tell_verdict(const struct tally *tally, const char *name, char room[
     size_t length = tell_counts(tally, name, room);
 
     if (tally->wrong > 0)
-        snprintf(room + length, VERDICT_ROOM - length, "%s not as expected; %s %llu", tally->wrong == 1 ? "is" : "are",
-                 tally->wrong == 1 ? "it is" : "the first is", (unsigned long long)tally->first_wrong);
+        snprintf(room + length, VERDICT_ROOM - length, "%s not as expected; %s %s %llu", tally->wrong == 1 ? "is" : "are",
+                 tally->wrong == 1 ? "it is" : "the first is", name, (unsigned long long)tally->first_wrong);
     return room;
 }
 

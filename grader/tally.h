@@ -21,7 +21,7 @@ void count_mark(struct tally *tally, bool right);
 /* What a noun ends with after a number. */
 const char *plural(uint64_t number);
 
-enum { VERDICT_ROOM = 100 };
+enum { VERDICT_ROOM = 140 };
 
 /* The verdict in one line. The name is that of one line's moment, such as "fetch point". A narrow verdict fits into a column. */
 const char *tell_verdict(const struct tally *tally, const char *name, char room[VERDICT_ROOM]);

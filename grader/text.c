@@ -17,7 +17,8 @@ static bool read_stream(FILE *stream, struct text *text, struct complaint *compl
 
     do {
         if (text->length == TEXT_MOST)
-            return complain(complaint, BAD_FILE, text->name, 0, "expected fewer than %d bytes, found more", TEXT_MOST);
+            return complain(complaint, BAD_FILE, text->name, 0, "expected fewer than %d bytes, found at least that many",
+                            TEXT_MOST);
         room = room == 0 ? 4096 : room * 2;
         larger = realloc(text->bytes, room);
         if (larger == NULL)
@@ -55,8 +56,7 @@ bool word_is(struct word word, const char *wanted)
     return word.length == strlen(wanted) && memcmp(word.start, wanted, word.length) == 0;
 }
 
-/* What a digit counts, or 16 where the character is none. */
-static unsigned digit(char character)
+unsigned digit(char character)
 {
     static const char digits[] = "0123456789abcdefABCDEF";
     const char *found = character == '\0' ? NULL : strchr(digits, character);
@@ -181,7 +181,7 @@ bool unexpected(const struct cursor *cursor, const struct word *found, struct co
     return complain(complaint, BAD_FILE, cursor->text->name, cursor->line, "expected %s, found %s", wanted, quoted);
 }
 
-bool take_number(struct cursor *cursor, const char *what, uint64_t least, uint64_t most, uint64_t *number, struct complaint *complaint)
+bool take_number(struct cursor *cursor, const char *noun, uint64_t least, uint64_t most, uint64_t *number, struct complaint *complaint)
 {
     struct word word;
     bool there = next_word(cursor, &word);
@@ -189,8 +189,8 @@ bool take_number(struct cursor *cursor, const char *what, uint64_t least, uint64
     if (there && word_is_number(word, most, number) && *number >= least)
         return true;
     if (least == most)
-        return unexpected(cursor, there ? &word : NULL, complaint, "%s %llu", what, (unsigned long long)least);
-    return unexpected(cursor, there ? &word : NULL, complaint, "%s from %llu to %llu", what, (unsigned long long)least,
+        return unexpected(cursor, there ? &word : NULL, complaint, "%s %llu", noun, (unsigned long long)least);
+    return unexpected(cursor, there ? &word : NULL, complaint, "a %s from %llu to %llu", noun, (unsigned long long)least,
                       (unsigned long long)most);
 }
 

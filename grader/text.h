@@ -27,6 +27,9 @@ struct word {
 
 bool word_is(struct word word, const char *wanted);
 
+/* What a hexadecimal digit counts, or 16 where the character is none. */
+unsigned digit(char character);
+
 /* A decimal number, or a hexadecimal one after 0x, if it is not above the most. */
 bool word_is_number(struct word word, uint64_t most, uint64_t *number);
 
@@ -58,8 +61,8 @@ bool next_word(struct cursor *cursor, struct word *word);
 /* Complains about the line: expected that, found the word, or the line's end where it is NULL. */
 bool unexpected(const struct cursor *cursor, const struct word *found, struct complaint *complaint, const char *expected, ...);
 
-/* Both take what the line must go on with, or complain. */
-bool take_number(struct cursor *cursor, const char *what, uint64_t least, uint64_t most, uint64_t *number, struct complaint *complaint);
+/* Both take what the line must go on with, or complain. The noun says what the number is, such as "microcycle". */
+bool take_number(struct cursor *cursor, const char *noun, uint64_t least, uint64_t most, uint64_t *number, struct complaint *complaint);
 bool take_line_end(struct cursor *cursor, struct complaint *complaint);
 
 #endif

@@ -1,5 +1,5 @@
-# The tests of the C calls (tests/engine) can fail. Each fault of tests/faults is planted in a copy of the second simulator, alone, and the
-# tests must find it: an answer or a lent place that is not as it must be. The copy without a fault must pass all of them.
+# The tests of the C calls (tests/engine) can fail. Each fault of tests/faults is planted in a copy of the second simulator, alone, and
+# the tests must find it: an answer or a lent place that is not as it must be. The copy without a fault must pass all of them.
 #
 # SCHOONLEECH_LIB  an archive to test instead of the proved one
 . tests/host/counting.bash
@@ -34,11 +34,15 @@ about() { # FILE
     esac
 }
 
+# A fault may make a test go on for ever, and one that is found takes seconds. The copy without a fault goes through all tests.
+seconds_planted=100 seconds_unchanged=1000
+[ -z "$emulator" ] || seconds_planted=1000 seconds_unchanged=10000
+
 # Links the tests with the given objects and runs them to the first one that fails.
-run_tests() { # PROGRAM WORDS OBJECT..
-    local program=$1 words=$2
-    shift 2
-    $cc -o "$program" "$work"/engine/*.o "$@" "$library" && timeout 100 $emulator "$program" first $words
+run_tests() { # SECONDS PROGRAM WORDS OBJECT..
+    local seconds=$1 program=$2 words=$3
+    shift 3
+    $cc -o "$program" "$work"/engine/*.o "$@" "$library" && timeout "$seconds" $emulator "$program" first $words
 }
 
 show_end() { # OUTPUT
@@ -57,7 +61,7 @@ try() { # FAULT
         return
     fi
     cp -n "$work"/simulator/*.o "$folder"
-    run_tests "$folder/tests" "$(about "$file")" "$folder"/*.o >"$folder/out" 2>&1
+    run_tests $seconds_planted "$folder/tests" "$(about "$file")" "$folder"/*.o >"$folder/out" 2>&1
     if grep -qE '^    .* (answers|leaves) .*, not ' "$folder/out" && grep -q '^FAILED' "$folder/out"; then
         sed -n "s/^FAILED  \(.*\)/passed  $name: found by \"\1\"/p" "$folder/out"
     else
@@ -67,7 +71,7 @@ try() { # FAULT
 }
 
 without_a_fault() {
-    if run_tests "$work/tests" "" "$work"/simulator/*.o >"$work/out" 2>&1; then
+    if run_tests $seconds_unchanged "$work/tests" "" "$work"/simulator/*.o >"$work/out" 2>&1; then
         echo "passed  the copy without a fault: nothing is found"
     else
         echo "FAILED  the copy without a fault: something is found"
@@ -85,4 +89,12 @@ wait
 cat "$work/unchanged" "$work"/*.fault >"$work/results"
 cat "$work/results"
 passed=$((passed + $(grep -c '^passed' "$work/results"))) failed=$((failed + $(grep -c '^FAILED' "$work/results")))
+
+one_result_each() {
+    local name
+    for name in unchanged $(basename -a tests/faults/*.fault); do
+        [ "$(grep -c '^passed\|^FAILED' "$work/$name")" = 1 ] || { echo "$name has none, or more than one"; return 1; }
+    done
+}
+one "each fault and the copy without one has a result" one_result_each
 finish

@@ -1,17 +1,18 @@
-# A fuzzer that is guided by coverage (libFuzzer, target in tests/fuzz) lends the engine and the second simulator what it made of its bytes,
-# and both must answer alike and leave every lent place alike. The coverage is that of the second simulator, which also runs under the
-# address and the undefined-behaviour sanitizer; the proved archive is linked as it is, between guard pages. Then the fuzzer must find
+# A fuzzer that is guided by coverage (libFuzzer, target in tests/fuzz) lends the engine and the second simulator what it made of its
+# bytes, and both must answer alike and leave every lent place alike. The coverage is that of the second simulator, which also runs under
+# the address and the undefined-behaviour sanitizer; the proved archive is linked as it is, between guard pages. Then the fuzzer must find
 # faults that are planted in the second simulator.
 #
 # SCHOONLEECH_LIB           an archive to test instead of the proved one
 # SCHOONLEECH_FUZZ_SECONDS  how long to look for a difference, instead of the fixed number of inputs
 . tests/host/counting.bash
+. tests/host/installing.bash
 . tests/host/library.bash
 . tests/faults/planting.bash
 
 sanitizers=address,undefined
 planted="lone_cr_ends_a_line leaving_word_is_the_first"
-inputs=50000 seconds_most=20 seconds_to_find=10
+inputs=50000 fewest_inputs=10000 seconds_most=20 seconds_to_find=10
 fewest_edges=350 # some 400 are reached; most of the others are the sanitizers' own, and no input should reach those
 
 links_a_target() {
@@ -21,8 +22,7 @@ links_a_target() {
 
 # Of the compiler and its two runtime libraries any may be missing, so a link is tried.
 [ "$(uname -m)" = x86_64 ] || { echo "the fuzzer can be built on x86-64 alone"; exit 77; }
-links_a_target || { apt-get update && DEBIAN_FRONTEND=noninteractive apt-get install -y --no-install-recommends clang libclang-rt-dev; } \
-    >/dev/null 2>&1
+links_a_target || install_packages clang libclang-rt-dev
 links_a_target || { echo "there is no clang with libFuzzer here and it can't be installed"; exit 77; }
 
 [ -n "${SCHOONLEECH_LIB:-}" ] || one "the library is proved" prove_library
@@ -48,8 +48,8 @@ link_target() { # PROGRAM SIMULATOR-OBJECT..
     clang -fsanitize=fuzzer,$sanitizers -o "$program" "$work"/target/*.o "$@" "$library"
 }
 
-# For each call some inputs without a meaning. Then those for the numbers that would come late: texts to read (call 4; 9 is the second one,
-# repeated), and stores to check (call 3; no word, and a circle).
+# For each call some inputs without a meaning. Then those for the numbers that would come late: texts to read (call 4; 9 is the second
+# one, repeated), and stores to check (call 3; no word, and a circle).
 make_seeds() {
     local call stride place byte seed number=0
     for call in {0..7}; do
@@ -110,6 +110,7 @@ executed=$(sed -n 's/^stat::number_of_executed_units: *//p' "$work/fuzz.out")
 edges=$(sed -n 's/^#.* cov: \([0-9]*\) .*/\1/p' "$work/fuzz.out" | tail -n 1)
 one "engine and second simulator agree on ${executed:-too few} inputs" nothing_is_found $status "$work/fuzz"
 [ "$failed" -eq 0 ] || finish
+[ -n "${SCHOONLEECH_FUZZ_SECONDS:-}" ] || one "these are not below $fewest_inputs" test "${executed:-0}" -ge $fewest_inputs
 one "these reach ${edges:-no} edges of the second simulator, not below $fewest_edges" test "${edges:-0}" -ge $fewest_edges
 one "every number from 0 to 18 is answered:$(sed -n 's/^answers://p' "$work/fuzz.out")" every_number_is_answered
 

@@ -120,7 +120,7 @@ good="published.microprogram sum.hex on_time.requests sum.expected"
 one "a file that is not there" refuses 3 "none: can't be read: No such file or directory" ${good/sum.hex/none}
 one "a folder" refuses 3 ".: can't be read: Is a directory" ${good/sum.expected/.}
 head -c 67108864 /dev/zero >"$files/large"
-one "a file of 64 MiB" refuses 3 "large: expected fewer than 67108864 bytes, found more" ${good/on_time.requests/large}
+one "a file of 64 MiB" refuses 3 "large: expected fewer than 67108864 bytes, found at least that many" ${good/on_time.requests/large}
 rm "$files/large"
 
 # Microprograms. 742D800040 leads to word 0 alone; its last three digits are COND and ADDR, and 742D8 are the codes of no operation.
@@ -131,14 +131,16 @@ bad microprogram "# only this\n0x\n" ":2: expected a microword of 1 to 16 hexade
 bad microprogram "00000000000000001\n" ":1: expected a microword of 1 to 16 hexadecimal digits, found '00000000000000001'"
 bad microprogram "$back $back\n" ":1: expected the end of the line, found '$back'"
 bad microprogram "\\001\n" ":1: expected a microword of 1 to 16 hexadecimal digits, found '?'"
-bad microprogram "$(yes $back | head -n 1025)" ":1025: expected at most 1024 microwords, found '$back'"
+bad microprogram "$(yes $back | head -n 70)\nxyz\n" ":71: expected a microword of 1 to 16 hexadecimal digits, found 'xyz'"
 number_4="the microprogram has too few or too many words (number 4): expected 1 to 64, found"
 bad microprogram "" ": $number_4 0" 4
 bad microprogram "# nothing\n\n" ": $number_4 0" 4
 bad microprogram "$(yes $back | head -n 65)" ":65: $number_4 65" 4
-bad microprogram "# first\n$(yes $back | head -n 1024)" ":66: $number_4 1024" 4
+bad microprogram "# first\n$(yes $back | head -n 5000)" ":66: $number_4 5000" 4
 number_5="the microword has a bit or a code that no table names (number 5): expected"
 bad microprogram "$back\n\n1$back\n" ":3: $number_5 no bit above 39 in word 1, found 0x1$back" 4
+bad microprogram "FEDCBA9876543210\n" ":1: $number_5 no bit above 39 in word 0, found 0xFEDCBA9876543210" 4
+bad microprogram "0xfedcba9876543210\n" ":1: $number_5 no bit above 39 in word 0, found 0xFEDCBA9876543210" 4
 bad microprogram "762D800040\n" ":1: $number_5 a code from 0 to 10 in field ALU of word 0, found 11" 4
 bad microprogram "7435800040\n" ":1: $number_5 a code from 0 to 5 in field SRCA of word 0, found 6" 4
 bad microprogram "742F800040\n" ":1: $number_5 a code from 0 to 2 in field SRCB of word 0, found 3" 4
@@ -152,19 +154,19 @@ bad microprogram "742D800080\n" ":1: $number_17 0, and word 0 can lead to word 4
 bad microprogram "742D800080\n$(yes $back | head -n 9)" ":1: $number_17 9, and word 0 can lead to word 10$advice" 4
 bad microprogram "742D8000C1\n742D8000C0\n" ":2: $number_17 1, and word 1 can lead to word 2$advice" 4
 bad microprogram "742D8000F1\n$back\n" ":1: $number_17 1, and word 0 can lead to word 49$advice" 4
-number_18="a walk can be away from fetch for more than 64 microcycles (number 18): it goes in a circle, and after exactly 64 microcycles it"
+number_18="a walk can be away from fetch for more than 64 microcycles (number 18): it goes in a circle, and after exactly 64 microcycles"
 bad microprogram "# word 1 leads to itself\n742D800000\n742D800041\n" \
-    ":3: $number_18 can stand on word 1; make every way from there lead to word 0" 4
+    ":3: $number_18 it can stand on word 1; make every way from there lead to word 0" 4
 
 # Images.
 
 data=:0400000000000010EC end=:00000001FF
-number_10="this line is not a record (number 10): expected a colon and then pairs of hexadecimal digits, five and as many more as the first"
-bad hex "hello\n" ":1: $number_10 pair says, found 'hello'"
-bad hex "$data\n\n$end\n" ":2: $number_10 pair says, found a blank line"
-bad hex "$data\r\n\r\n$end\n" ":2: $number_10 pair says, found a blank line"
-bad hex "$data\n${data}\t\n$end\n" ":2: $number_10 pair says, found '$data?'"
-bad hex "$(printf ':%060d' 0)\n" ":1: $number_10 pair says, found ':000000000000000000000000000000000000000..'"
+number_10="this line is not a record (number 10): expected a colon and then pairs of hexadecimal digits, five and as many more as the"
+bad hex "hello\n" ":1: $number_10 first pair says, found 'hello'"
+bad hex "$data\n\n$end\n" ":2: $number_10 first pair says, found a blank line"
+bad hex "$data\r\n\r\n$end\n" ":2: $number_10 first pair says, found a blank line"
+bad hex "$data\n${data}\t\n$end\n" ":2: $number_10 first pair says, found '$data?'"
+bad hex "$(printf ':%060d' 0)\n" ":1: $number_10 first pair says, found ':000000000000000000000000000000000000000..'"
 number_11="the bytes of this record do not add up to 0 modulo 256 (number 11): expected the checksum"
 bad hex ":0400000000000010ED\n$end\n" ":1: $number_11 EC, found ED"
 bad hex "$data\n:00000000ff\n" ":2: $number_11 00, found FF"
@@ -209,6 +211,11 @@ bad requests "from 1\n" ":1: expected none, interrupt, reset or both, found the 
 bad requests "from 1 up\n" ":1: expected none, interrupt, reset or both, found 'up'"
 bad requests "from 1 none\nfrom 5 none\nfrom 5 reset\n" ":3: expected a microcycle from 6 to 1000000000, found '5'"
 bad requests "from 1 none\nfrom 1000000001 none\n" ":2: expected a microcycle from 2 to 1000000000, found '1000000001'"
+bad requests "from 1 none\nfrom 999999999 none\nfrom 5 none\n" ":3: expected microcycle 1000000000, found '5'"
+last_from="from 1 none\nfrom 1000000000 none\n"
+bad requests "${last_from}from 1000000001 none\n" ":3: expected until, since no microcycle comes after 1000000000, found 'from'"
+bad requests "${last_from}pc 1\n" ":3: expected until, since no microcycle comes after 1000000000, found 'pc'"
+bad requests "${last_from}until 999999999\n" ":3: expected microcycle 1000000000, found '999999999'"
 bad requests "from 1 none\npc 1\n" ":2: expected from or until, since the starting state comes before them, found 'pc'"
 bad requests "until 9\n" ":1: expected a line 'from 1' before it, found 'until'"
 bad requests "from 1 none\nfrom 9 none\nuntil 8\n" ":3: expected a microcycle from 9 to 1000000000, found '8'"
@@ -286,7 +293,7 @@ fetch point 2, after microcycle 10, STI at 1: wrong
     status word        expected sm ie v n c z as before  shown no flag        differs
     register 8         expected 0x11170 as before        shown 7              differs
     memory word 12     expected 0 as before              shown 7              differs
-wrong: 2 of 3 fetch points are not as expected; the first is 1
+wrong: 2 of 3 fetch points are not as expected; the first is fetch point 1
 END
 prints ".. in columns" 1 --microcycles --brief $hand wrong.expected <<END
 microcycle by microcycle                         | at fetch points
@@ -321,11 +328,19 @@ microcycle  part    expected       shown         |   point  step            mark
 no lines to compare with                         | right: 1 fetch point is as expected
 END
 
+file r8.expected "fetch 1 pc 1 r8 1\n"
+prints "the only point is wrong" 1 --brief $hand r8.expected <<END
+fetch point 1, after microcycle 4, ADDI at 0: wrong
+    program counter    expected 1                        shown 1
+    register 8         expected 1                        shown 7              differs
+wrong: 1 of 1 fetch point is not as expected; it is fetch point 1
+END
+
 file hand.requests "words 16\nfrom 1 none\nuntil 9\n"
 prints "a point that is not reached is wrong" 1 --brief $hand hand.expected <<END
 fetch point 2: wrong, not reached: the run ended after 9 microcycles at fetch point 1
 fetch point 3: wrong, not reached: the run ended after 9 microcycles at fetch point 1
-wrong: 2 of 3 fetch points are not as expected; the first is 2
+wrong: 2 of 3 fetch points are not as expected; the first is fetch point 2
 END
 file both.expected "fetch 1 r8 7 pc 1\nfetch 2\nmicrocycle 1 mbr 0x61000007 mpc 1\nmicrocycle 2 ir 0x61000007 mpc 3 ireq 1\n$(
     printf 'microcycle %d mpc 2 ireq 0\\n' 3 4 5 6 7 8 9 10 11)"
@@ -436,6 +451,19 @@ late_changes_ireq_alone() {
 }
 one "what is recorded is right" record_then_mark
 one ".. with microcycles too" record_then_mark --microcycles
+
+no_point="the run ends before its first fetch point, and a log needs one; let it run longer"
+file no_point.requests "words 16\n\nfrom 1 none\nuntil 3 # of the 4 that ADDI takes\n# no more\n"
+no_point_is_told() { # OPTION..
+    refuses 3 "no_point.requests:4: $no_point" --record "$@" published.microprogram hand.hex no_point.requests
+}
+one "a run without a fetch point is not recorded" no_point_is_told
+one ".. with microcycles neither" no_point_is_told --microcycles
+file one_point.requests "words 16\nfrom 1 none\nuntil 4\n"
+prints "a run to the first fetch point is recorded" 0 --record published.microprogram hand.hex one_point.requests <<END
+# A line names what changed since the line of its kind before it; all that it does not name is as it was there.
+fetch 1 pc 1 r8 7                                 # after microcycle 4, ADDI at 0
+END
 one "a late request changes ireq and nothing else" late_changes_ireq_alone
 
 # Output: its width, where it can't be written, and progress on a terminal.
@@ -568,6 +596,16 @@ first_program() {
     [ -s "$work/first-output" ] && $emulator "$work/first" >"$work/out" && cmp "$work/first-output" "$work/out"
 }
 one ".. and prints what the page says" first_program
+
+# The page says what it prints with another word 47.
+first_program_with_the_mistake() {
+    local mistake
+    mistake=$(words_of $story/mistake.microprogram | sed -n 48p)
+    sed "s/= avm_published(k);/= k == 47 ? 0x$mistake : avm_published(k);/" "$work/first.c" >"$work/mistaken.c"
+    ! cmp -s "$work/first.c" "$work/mistaken.c" && $cc $strict -o "$work/mistaken" "$work/mistaken.c" "$library" &&
+        $emulator "$work/mistaken" >"$work/out" && cmp <(sed '/point [23]/s/right/wrong/' "$work/first-output") "$work/out"
+}
+one ".. and with the story's mistake fetch points 2 and 3 are wrong" first_program_with_the_mistake
 
 # The page's examples: the first indented lines of a section.
 example() { # SECTION

@@ -46,8 +46,8 @@ static void replace(struct text *text, size_t from, size_t length, const char *b
 
 static void damage(struct text *text)
 {
-    static const char *const pieces[] = {"", "\n", "\r", "\r\n", " ", "\t", "#", ":", "0x", "0", "9", "FFFFFFFFFFFFFFFF", "4294967295", "-",
-                                         "from", "until", "fetch 1", "microcycle 1", "pc 1", "m63 1", "r31", "ireq 1", "words 16384",
+    static const char *const pieces[] = {"", "\n", "\r", "\r\n", " ", "\t", "#", ":", "0x", "0", "9", "FFFFFFFFFFFFFFFF", "4294967295",
+                                         "-", "from", "until", "fetch 1", "microcycle 1", "pc 1", "m63 1", "r31", "ireq 1", "words 16384",
                                          "register 31 7\n", ":00000001FF\n", "\xFF\x80", "both"};
     size_t from = draw(text->length + 1), length = draw(4) == 0 ? draw(text->length - from + 1) : draw(2);
     const char *piece = pieces[draw(sizeof pieces / sizeof pieces[0])];
@@ -82,7 +82,7 @@ static bool try_files(struct job *job, FILE *nowhere, bool *good)
     if (job->requests.until.count <= LONGEST_RUN) {
         mark_in_list(nowhere, job, false, &complaint);
         mark_in_columns(nowhere, job, false, &complaint);
-        record(nowhere, job, true, &complaint);
+        *good = *good && (record(nowhere, job, true, &complaint) == ALL_RIGHT || in_order(&complaint));
     }
     return true;
 }
