@@ -11,8 +11,8 @@ use Rattle.microcycle.specs.declared.Core.{Core}
 use Rattle.microcycle.specs.Performing.{core-of, machine}
 use Rattle.runs.specs.Run.{RanOn, at-fetch, run-on}
 use Rattle.runs.proofs.RunTurns.{more, stop, over}
-use Rattle.micro_level.proofs.run_on.Statement.{statement}
-use Rattle.micro_level.proofs.run_on.Tie as tie
+use Rattle.run_loop.proofs.run_on.Statement.{statement}
+use Rattle.run_loop.proofs.run_on.Tie as tie
 
 abbrev Inv-loop : tie.InvT-loop
 Inv-loop program memory₀ requests registers₀ core₀ returns₀ at₀ memory registers core returns at =

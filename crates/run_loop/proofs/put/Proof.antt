@@ -1,8 +1,8 @@
 -- The tests are the definition's.
 use borrow.Author.Needs.{needs}
 use borrow.Author.Tests.{eq-eqb, ne-eqb, le-leb, lt-leb}
-use Rattle.micro_level.proofs.put.Statement.{statement}
-use Rattle.micro_level.proofs.put.Tie as tie
+use Rattle.run_loop.proofs.put.Statement.{statement}
+use Rattle.run_loop.proofs.put.Tie as tie
 
 returns : tie.Need-returns
 returns c = simp (eq-eqb _ 0 (c .if1 .taken))

@@ -4,8 +4,8 @@ use Prim.Native.Nat.{_<_}
 use mathlib.Core.Path.{sym, subst}
 use Rattle.words.specs.declared.instruction.Instruction.{Instruction}
 use Rattle.words.proofs.FieldBounds.{dest-lt, srca-lt, srcb-lt}
-use Rattle.micro_level.proofs.read.Statement.{statement}
-use Rattle.micro_level.proofs.read.Tie as tie
+use Rattle.run_loop.proofs.read.Statement.{statement}
+use Rattle.run_loop.proofs.read.Tie as tie
 
 of-srca : tie.Need-element-copy-out-t10
 of-srca c =

@@ -8,7 +8,7 @@ use Rattle.alu.specs.Alu.{sum, sum-carry, sum-overflow, difference, difference-
 use Rattle.status.specs.Psw.{mk-psw, get-psw, clocked, next-psw}
 use Rattle.status.specs.Jump.{jump-cond}
 use Rattle.images.specs.Digits.{digit-value, paired}
-use Rattle.edges.specs.Table.{Row, rows}
+use Rattle.examples.specs.Table.{Row, rows}
 
 pub examples-hold : map (λ (row : Row). row .shown) rows ≡ map (λ (row : Row). row .said) rows
 unfolding wordn bit msb negp zerop bnot signed outside is-sup-reg update-reg sum sum-carry sum-overflow difference difference-carry difference-overflow added subtracted mk-psw get-psw clocked next-psw jump-cond xor digit-value paired

@@ -1,8 +1,8 @@
 -- The two outcomes, from what the calls ensure.
 use borrow.Author.Needs.{needs}
 use Rattle.runs.proofs.Turns.{left, went}
-use Rattle.micro_level.proofs.advance.Statement.{statement}
-use Rattle.micro_level.proofs.advance.Tie as tie
+use Rattle.run_loop.proofs.advance.Statement.{statement}
+use Rattle.run_loop.proofs.advance.Tie as tie
 
 returns : tie.Need-returns
 returns c =
