@@ -3,8 +3,8 @@
 // and 20, and the memory words 12 to 14, all in decimal.
 use blocks::memory::load;
 use libc::STDOUT_FILENO;
-use macro_level::machine::MacroState;
 use macro_level::run::run;
+use steps::MacroState;
 
 fn main() {
     let mut memory = [0u32; 16];

@@ -1,18 +1,13 @@
 // A run: one step for each request byte.
 ghost use mathlib.Core.Path.{_≡_};
-ghost use Rattle.macro_level.specs.Machine.{taken, given};
-ghost use Rattle.macro_level.specs.Run.{macro-test, steps, run};
-use crate::machine::MacroMachine;
-use crate::machine::MacroState;
+ghost use Rattle.steps.specs.Machine.{taken, given};
+ghost use Rattle.steps.specs.Run.{macro-test, steps, run};
 use crate::step::step;
 use answers::End;
 use answers::Steps;
-
-pub struct MacroAnswer {
-    pub end: End,
-    pub steps: Steps,
-    pub state: MacroState,
-}
+use steps::MacroAnswer;
+use steps::MacroMachine;
+use steps::MacroState;
 
 // The PSW's other bits are dropped.
 fn take(s: MacroState) -> MacroMachine

@@ -1,7 +1,6 @@
 // One step: the interrupt step or the instruction at PC.
 ghost use mathlib.Core.Path.{_≡_};
-ghost use Rattle.macro_level.specs.Step.{operands, selected, performed, step};
-use crate::machine::MacroMachine;
+ghost use Rattle.steps.specs.Step.{operands, selected, performed, step};
 use blocks::choice::choose;
 use blocks::memory::apply;
 use blocks::memory::load;
@@ -9,6 +8,7 @@ use instructions::Effect;
 use instructions::Operands;
 use instructions::perform;
 use status::psw::Psw;
+use steps::MacroMachine;
 use words::instruction::decode;
 use words::registers::update;
 

@@ -29,12 +29,12 @@ use Rattle.runs.specs.Run.{RanOn, MicroCalled, at-fetch, bad-request, run-on, r
 use Rattle.phase_level.proofs.TestsInOrder.{machine-refused}
 use Rattle.runs.proofs.RunTests.{Fine, lent-refused as micro-lent}
 use Rattle.runs.proofs.RunCalls.{refused as micro-call}
-use Rattle.macro_level.proofs.RunTests.{lent-refused as macro-lent}
-use Rattle.macro_level.proofs.RunCalls.{refused as macro-call}
+use Rattle.steps.proofs.RunTests.{lent-refused as macro-lent}
+use Rattle.steps.proofs.RunCalls.{refused as macro-call}
 use Rattle.runs.proofs.RunsInARow.{as-run}
-use Rattle.macro_level.specs.Machine.{given as macro-given}
-use Rattle.macro_level.specs.Step.{Macro}
-use Rattle.macro_level.specs.Run.{MacroCalled, most-request, macro-test, macro-done, run as macro-run}
+use Rattle.steps.specs.Machine.{given as macro-given}
+use Rattle.steps.specs.Step.{Macro}
+use Rattle.steps.specs.Run.{MacroCalled, most-request, macro-test, macro-done, run as macro-run}
 use Rattle.published.specs.Listing.{published}
 use Rattle.published.specs.Clocks.{macro-state, shows, steps-of, heard}
 use Rattle.published.proofs.ReadBack.{passes}

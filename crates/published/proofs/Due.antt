@@ -12,7 +12,7 @@ use Rattle.phases.specs.Phases.{interrupt}
 use Rattle.microcycle.specs.declared.MicroMachine.{MicroMachine}
 use Rattle.microcycle.specs.Microcycle.{microcycle, micro-store}
 use Rattle.runs.specs.Run.{at-fetch}
-use Rattle.macro_level.specs.Step.{Macro, step}
+use Rattle.steps.specs.Step.{Macro, step}
 use Rattle.published.specs.Listing.{published}
 use Rattle.published.specs.Clocks.{macro-machine, shows, key, cycles}
 use Rattle.published.proofs.EveryOpcode.{Returned, returned, one-more, first-return, ahead, computed, cycles-are}

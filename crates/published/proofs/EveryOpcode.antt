@@ -31,8 +31,8 @@ use Rattle.microcycle.specs.Microcycle.{microcycle, micro-store, next-address}
 use Rattle.runs.specs.Run.{at-fetch}
 use Rattle.instructions.specs.Effects.{inc}
 use Rattle.instructions.specs.Instructions.{jmp, call, interrupted, rti, rtn, gpsw, ppsw, ld, st, shift, arithmetic, logic, noop, computation, effect, eint-key}
-use Rattle.macro_level.specs.declared.machine.MacroMachine.{MacroMachine}
-use Rattle.macro_level.specs.Step.{Macro, operands, selected, performed, step}
+use Rattle.steps.specs.declared.MacroMachine.{MacroMachine}
+use Rattle.steps.specs.Step.{Macro, operands, selected, performed, step}
 use Rattle.published.specs.Assembler.{packed}
 use Rattle.published.specs.Listing.{eint-u1-address, listing, published}
 use Rattle.published.specs.Clocks.{macro-machine, shows, own-cycles, cycles}

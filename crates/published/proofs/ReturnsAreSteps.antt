@@ -17,8 +17,8 @@ use Rattle.microcycle.specs.declared.MicroMachine.{MicroMachine}
 use Rattle.microcycle.specs.Microcycle.{microcycle, micro-store}
 use Rattle.runs.specs.Run.{RanOn, at-fetch, run-on}
 use Rattle.runs.proofs.RunJoins.{counted, counts-added}
-use Rattle.macro_level.specs.Step.{Macro, step}
-use Rattle.macro_level.specs.Run.{up, steps}
+use Rattle.steps.specs.Step.{Macro, step}
+use Rattle.steps.specs.Run.{up, steps}
 use Rattle.published.specs.Listing.{published}
 use Rattle.published.specs.Clocks.{macro-machine, shows, line, steps-of, heard}
 use Rattle.published.proofs.NeverRefused.{on, from-here, never-refused}

@@ -11,7 +11,7 @@ use Rattle.words.proofs.FlagNumbers.{num-le}
 use Rattle.microcycle.specs.declared.MicroMachine.{MicroMachine}
 use Rattle.runs.specs.Run.{RanOn, at-fetch, run-on}
 use Rattle.runs.proofs.RunJoins.{counts-added}
-use Rattle.macro_level.specs.Step.{Macro}
+use Rattle.steps.specs.Step.{Macro}
 use Rattle.published.specs.Listing.{published}
 use Rattle.published.specs.Clocks.{shows, key}
 use Rattle.published.proofs.NeverRefused.{on, from-here}

@@ -14,10 +14,10 @@ use Rattle.microcycle.specs.Microcycle.{microcycle, micro-store}
 use Rattle.runs.specs.declared.MicroState.{MicroState}
 use Rattle.runs.specs.Run.{at-fetch}
 use Rattle.instructions.specs.Instructions.{eint-key}
-use Rattle.macro_level.specs.declared.machine.MacroState.{MacroState}
-use Rattle.macro_level.specs.declared.machine.MacroMachine.{MacroMachine}
-use Rattle.macro_level.specs.Step.{Macro, selected}
-use Rattle.macro_level.specs.Run.{steps}
+use Rattle.steps.specs.declared.MacroState.{MacroState}
+use Rattle.steps.specs.declared.MacroMachine.{MacroMachine}
+use Rattle.steps.specs.Step.{Macro, selected}
+use Rattle.steps.specs.Run.{steps}
 
 -- what the macro level sees of a micro state (`Micro_Substate`, pp. 130-137)
 abbrev pub macro-machine : MicroMachine → MacroMachine

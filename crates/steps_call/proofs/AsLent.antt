@@ -6,8 +6,8 @@ use mathlib.Core.List.{List, [], _∷_}
 use lib.Dec.{eqb}
 use lib.ListN.{length}
 use Rattle.answers.specs.Ends.{is-done}
-use Rattle.macro_level.specs.Machine.{taken}
-use Rattle.macro_level.specs.Run.{MacroCalled, macro-test, steps, macro-done, macro-refused, run}
+use Rattle.steps.specs.Machine.{taken}
+use Rattle.steps.specs.Run.{MacroCalled, macro-test, steps, macro-done, macro-refused, run}
 use Rattle.lending.specs.Answers.{refused}
 use Rattle.lending.specs.Lending.{Left, first-test, found}
 use Rattle.steps_call.specs.Steps.{macro-state, steps-left, avm-steps}

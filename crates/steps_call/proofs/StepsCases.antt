@@ -4,9 +4,9 @@ use mathlib.Core.Path.{_≡_, sym, _∙_}
 use mathlib.Core.List.{List}
 use lib.ListN.{length}
 use borrow.Author.Tests.{eq-eqb, ne-eqb}
-use Rattle.macro_level.specs.declared.machine.MacroState.{MacroState}
-use Rattle.macro_level.specs.declared.run.MacroAnswer.{MacroAnswer}
-use Rattle.macro_level.specs.Run.{run}
+use Rattle.steps.specs.declared.MacroState.{MacroState}
+use Rattle.steps.specs.declared.MacroAnswer.{MacroAnswer}
+use Rattle.steps.specs.Run.{run}
 use Rattle.lending.specs.declared.Answer.{Answer}
 use Rattle.lending.specs.Answers.{refused, answered}
 use Rattle.lending.specs.Lending.{first-test, taken, given, found}

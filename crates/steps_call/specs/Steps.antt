@@ -2,8 +2,8 @@
 use Prim.Native.Nat.{ℕ}
 use mathlib.Core.List.{List, [], _∷_}
 use lib.ListN.{getD}
-use Rattle.macro_level.specs.declared.machine.MacroState.{MacroState}
-use Rattle.macro_level.specs.Run.{MacroCalled, run}
+use Rattle.steps.specs.declared.MacroState.{MacroState}
+use Rattle.steps.specs.Run.{MacroCalled, run}
 use Rattle.lending.specs.Answers.{answered}
 use Rattle.lending.specs.Lending.{Left, tested-first}
 

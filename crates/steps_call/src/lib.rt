@@ -7,7 +7,7 @@ use answers::Microcycles;
 use lending::Answer;
 use lending::answer_of;
 use lending::refuse;
-use macro_level::machine::MacroState;
+use steps::MacroState;
 
 // What the macro level sees of the registers and the state words.
 fn macro_state(registers: [u32; 32], state: &[u32; 7]) -> MacroState

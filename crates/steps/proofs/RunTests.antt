@@ -12,8 +12,8 @@ use Rattle.answers.specs.declared.End.the-variants.{Done, Request}
 use Rattle.answers.specs.Ends.{is-done}
 use Rattle.answers.specs.Places.{above, first-place}
 use Rattle.answers.specs.Tests.{lent-test}
-use Rattle.macro_level.specs.declared.machine.MacroState.{MacroState}
-use Rattle.macro_level.specs.Run.{most-request, macro-test}
+use Rattle.steps.specs.declared.MacroState.{MacroState}
+use Rattle.steps.specs.Run.{most-request, macro-test}
 
 module _ (words : ℕ) (s : MacroState) (requests : List ℕ) {lent : End} {done : Bool}
     (e : lent ≡ lent-test words (register (s .registers) 0)) (d : done ≡ is-done lent) where

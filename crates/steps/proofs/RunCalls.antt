@@ -8,10 +8,10 @@ use Rattle.words.proofs.Cases.{turned, upright}
 use Rattle.answers.specs.declared.End.{End}
 use Rattle.answers.specs.declared.End.the-variants.{Done}
 use Rattle.answers.specs.Ends.{is-done}
-use Rattle.macro_level.specs.declared.machine.MacroState.{MacroState}
-use Rattle.macro_level.specs.declared.machine.MacroMachine.{MacroMachine}
-use Rattle.macro_level.specs.Machine.{taken, given}
-use Rattle.macro_level.specs.Run.{macro-test, steps, macro-refused, run}
+use Rattle.steps.specs.declared.MacroState.{MacroState}
+use Rattle.steps.specs.declared.MacroMachine.{MacroMachine}
+use Rattle.steps.specs.Machine.{taken, given}
+use Rattle.steps.specs.Run.{macro-test, steps, macro-refused, run}
 
 module _ (mem : List ℕ) (s : MacroState) (requests : List ℕ) {test : End} {done : Bool}
     (e : test ≡ macro-test (length mem) s requests) (d : done ≡ is-done test) where

@@ -14,8 +14,8 @@ use Rattle.instructions.specs.declared.Operands.{Operands}
 use Rattle.instructions.specs.declared.Effect.{Effect}
 use Rattle.instructions.specs.Effects.{add, inc}
 use Rattle.instructions.specs.Instructions.{call, interrupted, rti, gpsw, ppsw}
-use Rattle.macro_level.specs.declared.machine.MacroMachine.{MacroMachine}
-use Rattle.macro_level.specs.Step.{operands, performed}
+use Rattle.steps.specs.declared.MacroMachine.{MacroMachine}
+use Rattle.steps.specs.Step.{operands, performed}
 
 -- CALL jumps by the register as it was, also where it is the one that CALL moves
 pub call-jumps-by-the-old-register : (w : ℕ) (m : MacroMachine)

@@ -1,8 +1,8 @@
 -- The macro level's state (the tuple of pp. 130-136 with its fifth part, the vector) as a caller lends it, with the PSW as a number, and as
 -- a step sees it, with the PSW as its six bits. Memory stands beside it. Assumes nothing.
 use Rattle.status.specs.Psw.{mk-psw, get-psw}
-use Rattle.macro_level.specs.declared.machine.MacroState.{MacroState}
-use Rattle.macro_level.specs.declared.machine.MacroMachine.{MacroMachine}
+use Rattle.steps.specs.declared.MacroState.{MacroState}
+use Rattle.steps.specs.declared.MacroMachine.{MacroMachine}
 
 -- the PSW's other bits are dropped
 abbrev pub taken : MacroState → MacroMachine

@@ -11,11 +11,11 @@ use Rattle.answers.specs.declared.End.the-variants.{Done, Request}
 use Rattle.answers.specs.Ends.{is-done}
 use Rattle.answers.specs.Places.{above, first-place}
 use Rattle.answers.specs.Tests.{lent-test}
-use Rattle.macro_level.specs.declared.machine.MacroState.{MacroState}
-use Rattle.macro_level.specs.declared.machine.MacroMachine.{MacroMachine}
-use Rattle.macro_level.specs.declared.run.MacroAnswer.{MacroAnswer}
-use Rattle.macro_level.specs.Machine.{taken, given}
-use Rattle.macro_level.specs.Step.{Macro, step}
+use Rattle.steps.specs.declared.MacroState.{MacroState}
+use Rattle.steps.specs.declared.MacroMachine.{MacroMachine}
+use Rattle.steps.specs.declared.MacroAnswer.{MacroAnswer}
+use Rattle.steps.specs.Machine.{taken, given}
+use Rattle.steps.specs.Step.{Macro, step}
 
 -- the largest request byte: there is no reset at this level
 abbrev pub most-request : ℕ

@@ -8,8 +8,8 @@ use Rattle.blocks.specs.Memory.{fetch, applied}
 use Rattle.instructions.specs.declared.Operands.{Operands}
 use Rattle.instructions.specs.declared.Effect.{Effect}
 use Rattle.instructions.specs.Instructions.{effect}
-use Rattle.macro_level.specs.declared.machine.MacroMachine.{MacroMachine}
-use Rattle.macro_level.specs.Step.{operands, selected, performed, step}
+use Rattle.steps.specs.declared.MacroMachine.{MacroMachine}
+use Rattle.steps.specs.Step.{operands, selected, performed, step}
 
 -- an effect on the state
 pub the-state : (e : Effect) (m : MacroMachine) {registers : List ℕ} → registers ≡ update-reg (e .sm) (e .register) (m .registers) (e .value)

@@ -5,9 +5,9 @@ use mathlib.Core.Path.{_≡_}
 use mathlib.Core.List.{List}
 use lib.ListN.{length, getD, drop}
 use lib.Seq.{drop-cons, drop-length}
-use Rattle.macro_level.specs.declared.machine.MacroMachine.{MacroMachine}
-use Rattle.macro_level.specs.Step.{step}
-use Rattle.macro_level.specs.Run.{up, steps}
+use Rattle.steps.specs.declared.MacroMachine.{MacroMachine}
+use Rattle.steps.specs.Step.{step}
+use Rattle.steps.specs.Run.{up, steps}
 
 module _ (mem : List ℕ) (m : MacroMachine) (requests : List ℕ) (i : ℕ) where
   pub more : i < length requests → {next : MacroMachine} {after : List ℕ}

@@ -10,7 +10,7 @@ use Rattle.blocks.specs.Memory.{fetch, applied}
 use Rattle.instructions.specs.declared.Operands.{Operands}
 use Rattle.instructions.specs.declared.Effect.{Effect}
 use Rattle.instructions.specs.Instructions.{effect, eint-key}
-use Rattle.macro_level.specs.declared.machine.MacroMachine.{MacroMachine}
+use Rattle.steps.specs.declared.MacroMachine.{MacroMachine}
 
 -- what the instruction word names: `GetSrcA`, `GetSrcB`, `GetDest`, `GetImm` (pp. 130-136) and the registers there
 abbrev pub operands : ℕ → MacroMachine → Operands
