@@ -3,4 +3,5 @@ pub mod StepParts
 pub mod RunTests
 pub mod RunTurns
 pub mod RunCalls
+pub mod RefusedRuns
 pub mod Corners
