@@ -8,7 +8,7 @@ use lib.ListN.{length}
 use Rattle.blocks.specs.declared.memory.Store.the-variants.{Nothing}
 use Rattle.phases.specs.declared.PhaseMachine.{PhaseMachine}
 use Rattle.phases.specs.Phases.{phase-one, phase-two, phase-three, phase-four, next-mpc, phase-store}
-use Rattle.phase_level.specs.Call.{phase-done, stores, leaves as phase-leaves}
+use Rattle.quarters.specs.Call.{phase-done, stores, leaves as phase-leaves}
 use Rattle.microcycle.specs.Machine.{seen}
 use Rattle.microcycle.specs.Microcycle.{microcycle, next-address, micro-store, leaves}
 

@@ -7,10 +7,10 @@ use lib.ListN.{length}
 use borrow.Author.Tests.{eq-eqb, ne-eqb}
 use Rattle.words.proofs.Cases.{turned, upright}
 use Rattle.answers.specs.Ends.{is-done}
-use Rattle.phase_level.specs.declared.machine.PhaseState.{PhaseState}
-use Rattle.phase_level.specs.declared.call.PhaseAnswer.{PhaseAnswer}
-use Rattle.phase_level.specs.Call.{phase-call}
-use Rattle.phase_level.proofs.PhaseCalls.{as-lent}
+use Rattle.quarters.specs.declared.PhaseState.{PhaseState}
+use Rattle.quarters.specs.declared.PhaseAnswer.{PhaseAnswer}
+use Rattle.quarters.specs.Call.{phase-call}
+use Rattle.quarters.proofs.PhaseCalls.{as-lent}
 use Rattle.lending.specs.declared.Answer.{Answer}
 use Rattle.lending.specs.Answers.{refused}
 use Rattle.lending.specs.Lending.{first-test, taken, given}

@@ -7,8 +7,8 @@ use lib.ListN.{length, getD}
 use mir.Val.{boolByte as num}
 use Rattle.answers.specs.declared.End.{End}
 use Rattle.answers.specs.Ends.{is-done}
-use Rattle.phase_level.specs.declared.machine.PhaseState.{PhaseState}
-use Rattle.phase_level.specs.Call.{PhaseCalled, phase-call}
+use Rattle.quarters.specs.declared.PhaseState.{PhaseState}
+use Rattle.quarters.specs.Call.{PhaseCalled, phase-call}
 use Rattle.lending.specs.declared.Answer.{Answer}
 use Rattle.lending.specs.Answers.{refused, answered}
 use Rattle.lending.specs.Lending.{first-test}

@@ -7,7 +7,7 @@ use answers::Steps;
 use lending::Answer;
 use lending::answer_of;
 use lending::refuse;
-use phase_level::machine::PhaseState;
+use quarters::PhaseState;
 
 // A phase state from everything that a phase call is lent for it.
 fn phase_state(

@@ -1,19 +1,15 @@
 // One phase, or a refusal.
 ghost use mathlib.Core.Path.{_≡_};
-ghost use Rattle.phase_level.specs.Machine.{taken, given};
-ghost use Rattle.phase_level.specs.Tests.{phase-test};
-ghost use Rattle.phase_level.specs.Call.{phase-done, stores, leaves, phase-call};
-use crate::machine::PhaseState;
+ghost use Rattle.quarters.specs.Machine.{taken, given};
+ghost use Rattle.quarters.specs.Tests.{phase-test};
+ghost use Rattle.quarters.specs.Call.{phase-done, stores, leaves, phase-call};
 use crate::tests;
 use answers::End;
 use blocks::memory::Store;
 use blocks::memory::apply;
 use phases::PhaseMachine;
-
-pub struct PhaseAnswer {
-    pub end: End,
-    pub state: PhaseState,
-}
+use quarters::PhaseAnswer;
+use quarters::PhaseState;
 
 // The PSW's other bits are dropped.
 fn take(s: PhaseState) -> PhaseMachine

@@ -1,5 +1,4 @@
 // The phase level: the call that does one phase or refuses. Every function is
-// total; specs/ says what each answers.
+// total; the crate quarters says what each answers.
 pub mod call;
-pub mod machine;
 pub mod tests;

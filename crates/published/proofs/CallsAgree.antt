@@ -20,13 +20,13 @@ use Rattle.answers.specs.Tests.{lent-test}
 use Rattle.microwords.specs.Sequencer.{fetch-address}
 use Rattle.blocks.specs.Memory.{applied}
 use Rattle.phases.specs.Phases.{interrupt}
-use Rattle.phase_level.specs.Tests.{machine-test}
+use Rattle.quarters.specs.Tests.{machine-test}
 use Rattle.microcycle.specs.declared.MicroMachine.{MicroMachine}
 use Rattle.microcycle.specs.Microcycle.{microcycle, micro-store}
 use Rattle.runs.specs.declared.MicroState.{MicroState}
 use Rattle.runs.specs.Machine.{taken, given}
 use Rattle.runs.specs.Run.{RanOn, MicroCalled, at-fetch, bad-request, run-on, run}
-use Rattle.phase_level.proofs.TestsInOrder.{machine-refused}
+use Rattle.quarters.proofs.TestsInOrder.{machine-refused}
 use Rattle.runs.proofs.RunTests.{Fine, lent-refused as micro-lent}
 use Rattle.runs.proofs.RunCalls.{refused as micro-call}
 use Rattle.steps.proofs.RunTests.{lent-refused as macro-lent}

@@ -17,8 +17,8 @@ use Rattle.blocks.specs.Memory.{applied}
 use Rattle.datapath.specs.Results.{new-mpc}
 use Rattle.phases.specs.declared.PhaseMachine.{PhaseMachine}
 use Rattle.phases.specs.Phases.{next-mpc}
-use Rattle.phase_level.specs.Tests.{last-phase}
-use Rattle.phase_level.specs.Call.{leaves}
+use Rattle.quarters.specs.Tests.{last-phase}
+use Rattle.quarters.specs.Call.{leaves}
 use Rattle.microcycle.specs.Machine.{seen}
 use Rattle.microcycle.specs.Microcycle.{microcycle, micro-store}
 use Rattle.microcycle.proofs.FourPhases.{first, second, third, fourth, done-alike, stored-alike, begins-again, nothing-stored-earlier}

@@ -8,7 +8,7 @@ use mir.Val.{boolByte as num}
 use Rattle.blocks.specs.Memory.{fetch, applied}
 use Rattle.phases.specs.declared.PhaseMachine.{PhaseMachine}
 use Rattle.phases.specs.Phases.{interrupt}
-use Rattle.phase_level.specs.Call.{phase-done, stores}
+use Rattle.quarters.specs.Call.{phase-done, stores}
 use Rattle.microcycle.specs.declared.MicroMachine.{MicroMachine}
 use Rattle.microcycle.specs.Microcycle.{microcycle, micro-store}
 use Rattle.runs.specs.declared.MicroState.{MicroState}

@@ -18,7 +18,7 @@ use Rattle.answers.specs.Places.{first-place}
 use Rattle.answers.specs.Tests.{lent-test}
 use Rattle.answers.proofs.FirstPlace.{none-in-front}
 use Rattle.microwords.specs.ControlStore.{legal-store-length, lowest-illegal, store-test}
-use Rattle.phase_level.specs.Tests.{machine-test}
+use Rattle.quarters.specs.Tests.{machine-test}
 use Rattle.runs.specs.declared.MicroState.{MicroState}
 use Rattle.runs.specs.Machine.{taken, given}
 use Rattle.runs.specs.Run.{RanOn, MicroCalled, bad-request, micro-test, run-on, answered, micro-refused, run}

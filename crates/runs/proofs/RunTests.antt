@@ -14,7 +14,7 @@ use Rattle.answers.specs.declared.End.the-variants.{Done, Outside, Request}
 use Rattle.answers.specs.Ends.{is-done}
 use Rattle.answers.specs.Places.{first-place}
 use Rattle.answers.proofs.FirstPlace.{at-most}
-use Rattle.phase_level.specs.Tests.{machine-test}
+use Rattle.quarters.specs.Tests.{machine-test}
 use Rattle.runs.specs.declared.MicroState.{MicroState}
 use Rattle.runs.specs.Run.{bad-request, micro-test}
 

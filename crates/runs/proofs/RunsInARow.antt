@@ -16,7 +16,7 @@ use Rattle.status.proofs.PswNumbers.{dropped, restored}
 use Rattle.answers.specs.Ends.{is-done}
 use Rattle.answers.specs.Places.{first-place}
 use Rattle.answers.proofs.FirstPlace.{none-in-join}
-use Rattle.phase_level.specs.Tests.{machine-test}
+use Rattle.quarters.specs.Tests.{machine-test}
 use Rattle.runs.specs.declared.MicroState.{MicroState}
 use Rattle.microcycle.specs.declared.MicroMachine.{MicroMachine}
 use Rattle.runs.specs.Machine.{taken, given}

@@ -14,7 +14,7 @@ use Rattle.answers.specs.Places.{first-place}
 use Rattle.answers.specs.Tests.{lent-test}
 use Rattle.microwords.specs.ControlStore.{store-test}
 use Rattle.microwords.proofs.StoreTest.{at-most-5}
-use Rattle.phase_level.specs.Tests.{machine-test}
+use Rattle.quarters.specs.Tests.{machine-test}
 use Rattle.runs.specs.declared.MicroState.{MicroState}
 use Rattle.runs.specs.Run.{bad-request, micro-test}
 

@@ -13,7 +13,7 @@ use Rattle.answers.specs.Ends.{is-done}
 use Rattle.answers.specs.Places.{above, first-place}
 use Rattle.microwords.specs.Sequencer.{fetch-address}
 use Rattle.blocks.specs.Memory.{applied}
-use Rattle.phase_level.specs.Tests.{machine-test, most-request}
+use Rattle.quarters.specs.Tests.{machine-test, most-request}
 use Rattle.runs.specs.declared.MicroState.{MicroState}
 use Rattle.microcycle.specs.declared.MicroMachine.{MicroMachine}
 use Rattle.runs.specs.declared.Ran.{Ran}

@@ -1,4 +1,4 @@
--- Theorems over the definitions of specs/, a file each; the proofs of the functions stand in their folders.
+-- Theorems over the definitions of specs/, a file each; macro_level's functions are proved with them.
 pub mod StepParts
 pub mod RunTests
 pub mod RunTurns

@@ -1,7 +1,7 @@
 -- Phase four alone stores.
 use borrow.Author.Needs.{needs}
 use borrow.Author.Tests.{eq-eqb, ne-eqb}
-use Rattle.phase_level.specs.Call.{stores}
+use Rattle.quarters.specs.Call.{stores}
 use Rattle.phase_level.proofs.call.stores.Statement.{statement}
 use Rattle.phase_level.proofs.call.stores.Tie as tie
 

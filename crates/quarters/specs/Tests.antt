@@ -11,7 +11,7 @@ use Rattle.answers.specs.Ends.{is-done}
 use Rattle.answers.specs.Tests.{lent-test}
 use Rattle.microwords.specs.Codes.{legal-microword}
 use Rattle.microwords.specs.ControlStore.{store-test}
-use Rattle.phase_level.specs.declared.machine.PhaseState.{PhaseState}
+use Rattle.quarters.specs.declared.PhaseState.{PhaseState}
 
 -- 1, 3, 4, 5: memory's length, register 0, the microprogram
 unfoldable pub machine-test : ℕ → ℕ → List ℕ → End

@@ -13,10 +13,10 @@ use Rattle.blocks.specs.declared.memory.Store.the-variants.{Nothing}
 use Rattle.blocks.specs.Memory.{applied}
 use Rattle.phases.specs.declared.PhaseMachine.{PhaseMachine}
 use Rattle.phases.specs.Phases.{phase-one, phase-two, phase-three, phase-four, next-mpc, phase-store}
-use Rattle.phase_level.specs.declared.machine.PhaseState.{PhaseState}
-use Rattle.phase_level.specs.declared.call.PhaseAnswer.{PhaseAnswer}
-use Rattle.phase_level.specs.Machine.{taken, given}
-use Rattle.phase_level.specs.Tests.{phase-test, last-phase}
+use Rattle.quarters.specs.declared.PhaseState.{PhaseState}
+use Rattle.quarters.specs.declared.PhaseAnswer.{PhaseAnswer}
+use Rattle.quarters.specs.Machine.{taken, given}
+use Rattle.quarters.specs.Tests.{phase-test, last-phase}
 
 -- the phase that is next, by its number (GetPhaseClock and the list, pp. 114-118)
 unfoldable pub phase-done : List ℕ → List ℕ → PhaseMachine → ℕ → PhaseMachine

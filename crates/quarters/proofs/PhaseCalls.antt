@@ -10,11 +10,11 @@ use Rattle.answers.specs.declared.End.the-variants.{Done, NextAddress}
 use Rattle.answers.specs.Ends.{is-done}
 use Rattle.blocks.specs.declared.memory.Store.{Store}
 use Rattle.blocks.specs.Memory.{applied}
-use Rattle.phase_level.specs.declared.machine.PhaseState.{PhaseState}
+use Rattle.quarters.specs.declared.PhaseState.{PhaseState}
 use Rattle.phases.specs.declared.PhaseMachine.{PhaseMachine}
-use Rattle.phase_level.specs.Machine.{taken, given}
-use Rattle.phase_level.specs.Tests.{phase-test}
-use Rattle.phase_level.specs.Call.{PhaseCalled, phase-done, stores, leaves, phase-refused, phase-call}
+use Rattle.quarters.specs.Machine.{taken, given}
+use Rattle.quarters.specs.Tests.{phase-test}
+use Rattle.quarters.specs.Call.{PhaseCalled, phase-done, stores, leaves, phase-refused, phase-call}
 
 module _ (program mem : List ℕ) (s : PhaseState) (request : ℕ) {test : End} {done : Bool}
     (e : test ≡ phase-test (length mem) program s request) (d : done ≡ is-done test) where

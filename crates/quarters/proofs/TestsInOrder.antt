@@ -14,8 +14,8 @@ use Rattle.answers.specs.Ends.{is-done}
 use Rattle.answers.specs.Tests.{lent-test}
 use Rattle.microwords.specs.Codes.{legal-microword}
 use Rattle.microwords.specs.ControlStore.{store-test}
-use Rattle.phase_level.specs.declared.machine.PhaseState.{PhaseState}
-use Rattle.phase_level.specs.Tests.{machine-test, phase-test, last-phase, most-request}
+use Rattle.quarters.specs.declared.PhaseState.{PhaseState}
+use Rattle.quarters.specs.Tests.{machine-test, phase-test, last-phase, most-request}
 
 module _ (words register-0 : ℕ) (program : List ℕ) {lent : End} {done : Bool} (e : lent ≡ lent-test words register-0) (d : done ≡ is-done lent) where
   pub machine-refused : not done ≡ true → machine-test words register-0 program ≡ lent

@@ -1,7 +1,7 @@
 -- The phase level's state in its two forms (the tuple of pp. 110-112, memory apart): with the PSW as a number, as a caller lends it, and
 -- with the PSW as its six bits, as the phases see it. Assumes nothing.
 use Rattle.status.specs.Psw.{mk-psw, get-psw}
-use Rattle.phase_level.specs.declared.machine.PhaseState.{PhaseState}
+use Rattle.quarters.specs.declared.PhaseState.{PhaseState}
 use Rattle.phases.specs.declared.PhaseMachine.{PhaseMachine}
 
 -- the PSW's other bits are dropped
