@@ -3,11 +3,12 @@
    AVM-1 is the microprogrammed processor of chapter 5 of P. J. Windley's dissertation (1990). docs/AVM1.md has its tables, and
    docs/DECISIONS.md what those leave open. docs/GRADER.md leads from here to a marked program and says what to tell a student.
 
-   A caller lends places: a microprogram, memory, registers, a block of state words, text. A call reads them, changes some of them where
-   they stand and returns an avm_answer. It keeps nothing for the next call. avm_published alone is lent nothing and returns a microword.
+   A caller lends places: a microprogram, memory, registers, a block of state words, a board, text. A call reads them, changes some of them
+   where they stand and returns an avm_answer. It keeps nothing for the next call. avm_published alone is lent nothing and returns a
+   microword. The two calls whose names begin with avm_board_ are in libboard.a, all others in libgrader.a; a program may link both.
 
    - A slice is a pointer and a number of elements. A slice of length 0 may come with NULL.
-   - A block with a fixed size (state, latches, mir, phase) has no length. It may not be NULL.
+   - A block with a fixed size (state, latches, mir, phase, board) has no length. It may not be NULL.
    - No two lent places of a call may overlap, and each must be as long as the call is told.
    - "As lent" means: the same bytes as before the call. A place behind a pointer to const is always as lent. */
 
@@ -33,8 +34,9 @@ extern "C" {
 #define AVM_WRITTEN(m) ((size_t)11 * (size_t)(m) + (size_t)12)
 
 /* Numbers of an answer. Numbers 1 to 7 are tested before anything is done, the lowest first, and the first that applies is the answer:
-   all lent places are then as lent. After 8 the completed microcycles of a run stay; see each call. avm_steps has no microprogram and no
-   phase, so it never answers 4, 5, 6 or 8. avm_check is lent a microprogram alone and runs nothing: it tests 4, 5, 17 and 18, in that
+   all lent places are then as lent. After 8 the completed microcycles of a run stay; see each call. avm_steps and avm_board_instruction
+   have no microprogram and no phase, so they never answer 4, 5, 6 or 8. A board has all its registers, so its calls never answer 2.
+   avm_check is lent a microprogram alone and runs nothing: it tests 4, 5, 17 and 18, in that
    order, and no other call answers 17 or 18. Numbers 9 to 16 are about images, and after each of them all lent places are as lent:
    avm_read tests 1, then 9, then 10 to 15 line after line; avm_write tests 1 and then 16. */
 enum {
@@ -45,7 +47,7 @@ enum {
     AVM_BAD_PROGRAM_LENGTH = 4,   /* words is 0 or above AVM_PROGRAM_MOST                                                   */
     AVM_BAD_MICROWORD = 5,        /* a microword has a bit above 39 set or a code that no table names; at: the lowest such  */
     AVM_OUTSIDE = 6,              /* MPC is not below words, or the phase number is above 3                                 */
-    AVM_BAD_REQUEST = 7,          /* a request byte is above 3, or for avm_steps above 1; at: the first such place          */
+    AVM_BAD_REQUEST = 7,          /* a request byte is above 3, or where instructions are done above 1; at: the first such  */
     AVM_LEFT_PROGRAM = 8,         /* a microcycle would give a next address that is not below words                         */
     AVM_TEXT_TOO_LONG = 9,        /* an image's text has more than AVM_TEXT_MOST bytes                                      */
     AVM_NOT_A_RECORD = 10,        /* a line is not of record form, or blank; at: the line                                   */
@@ -68,10 +70,10 @@ typedef struct {
     uint64_t number;               /* AVM_DONE, or why the call was refused                                                 */
     uint64_t at;                   /* with 5, 17 and 18 the word, with 7 the place in the request bytes, with 10 to 15 the
                                       line of the text, with 16 the bytes needed; of avm_write with 0: the bytes written    */
-    avm_microcycles microcycles;   /* of avm_run with 0 and 8: the microcycles that it completed;
+    avm_microcycles microcycles;   /* of avm_run and avm_board_microcycle with 0 and 8: the microcycles that they completed;
                                       of avm_check with 0: the length of the longest walk                                   */
-    avm_instructions steps;        /* of avm_run with 0 and 8: returns to fetch, those of them after which MPC is AVM_FETCH;
-                                      of avm_steps with 0: the steps that it did                                            */
+    avm_instructions steps;        /* of these two with 0 and 8: returns to fetch, those of them after which MPC is AVM_FETCH;
+                                      of avm_steps and avm_board_instruction with 0: the steps that they did                */
 } avm_answer;
 
 /* Words of the state block, by index; AVM_STATE is their number.
@@ -159,6 +161,37 @@ avm_answer avm_phase(const uint64_t *program, size_t words, uint32_t *memory, si
    Numbers 1, 2, 3 and 7: refused, everything as lent. */
 avm_answer avm_steps(uint32_t *memory, size_t m, uint32_t *registers, size_t count, uint32_t state[AVM_STATE], const uint8_t *requests,
                      size_t bytes);
+
+/* A bench board: registers and state words as one record, which a display keeps from call to call. Its fields mean what the registers of
+   avm_run and the words of the state block mean, in their order. */
+typedef struct {
+    uint32_t registers[AVM_REGISTERS];
+    uint32_t psw, pc, ir, mar, mbr, mpc, ivec;
+} avm_board;
+
+/* Advances a board by one microcycle, where it stands: what avm_run does with one request byte.
+
+   board             the board
+   program .. m      as for avm_run
+   request           a byte as in avm_run's list. at is 0 when it is refused with 7.
+
+   Number 0: the microcycle was done, and the PSW's higher bits were dropped. microcycles is 1; steps is 1 if MPC is AVM_FETCH now, else 0.
+   Numbers 1 and 3 to 8: refused, board and memory as lent, the PSW's higher bits too. The counts are 0. 8 says that the microcycle would
+   have left the microprogram. */
+avm_answer avm_board_microcycle(avm_board *board, const uint64_t *program, size_t words, uint32_t *memory, size_t m, uint8_t request);
+
+/* Advances a board by one step, that is an instruction or the interrupt step, where it stands: what avm_steps does with one request byte.
+
+   board             the board; registers, PSW and PC change. IR, MAR, MBR and MPC stay as lent, whatever they are, and so does IVEC.
+   memory, m         as for avm_steps
+   request           1 interrupt, 0 none. at is 0 when it is refused with 7.
+
+   Number 0: the step was done, and the PSW's higher bits were dropped. steps is 1 and microcycles 0.
+   Numbers 1, 3 and 7: refused, board and memory as lent, the PSW's higher bits too. The counts are 0.
+
+   The step starts from PC and the registers as they are, also where MPC says that a microprogram is in the middle of an instruction. A
+   board that is advanced by microcycles too should have MPC at AVM_FETCH before a step. */
+avm_answer avm_board_instruction(avm_board *board, uint32_t *memory, size_t m, uint8_t request);
 
 /* Checks a microprogram without running it: is it back at fetch within a known number of microcycles, whatever it is run on?
 

@@ -1,5 +1,6 @@
 # docs/PROMISES.md can't go stale: each `crate/path#name` and each .edit in it exists, and every public function and every must-fail edit
-# of the crates is in it, each function with at least two edits in its item. A public function has an `ensures` and no `requires`.
+# of the crates is in it, each function with at least two edits in its item. A public function has an `ensures` and no `requires`, and
+# none but the board's two calls takes a reference to a struct.
 page=docs/PROMISES.md
 passed=0 failed=0
 
@@ -35,6 +36,11 @@ while IFS=: read -r file number line; do
         passed=$((passed + 1))
     else
         fail "$file: $name has no ensures, or a requires"
+    fi
+    if ! grep -qE '&(mut )?([A-Z]|self)' <<<"$head" || [[ $name == avm_board_* ]]; then
+        passed=$((passed + 1))
+    else
+        fail "$file: $name takes a reference to a struct"
     fi
     if [ "$edits" -ge 2 ]; then passed=$((passed + 1)); else fail "$file: $name has $edits edits on the page"; fi
 done < <(grep -rnE '^[[:space:]]*pub (extern "C" )?fn ' crates/*/src)
