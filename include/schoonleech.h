@@ -36,9 +36,9 @@ extern "C" {
 /* Numbers of an answer. Numbers 1 to 7 are tested before anything is done, the lowest first, and the first that applies is the answer:
    all lent places are then as lent. After 8 the completed microcycles of a run stay; see each call. avm_steps and avm_board_instruction
    have no microprogram and no phase, so they never answer 4, 5, 6 or 8. A board has all its registers, so its calls never answer 2.
-   avm_check is lent a microprogram alone and runs nothing: it tests 4, 5, 17 and 18, in that
-   order, and no other call answers 17 or 18. Numbers 9 to 16 are about images, and after each of them all lent places are as lent:
-   avm_read tests 1, then 9, then 10 to 15 line after line; avm_write tests 1 and then 16. */
+   avm_check is lent a microprogram alone and runs nothing: it tests 4, 5, 17 and 18, in that order, and no other call answers 17 or 18.
+   Numbers 9 to 16 are about images, and after each of them all lent places are as lent: avm_read tests 1, then 9, then 10 to 15 line after
+   line; avm_write tests 1 and then 16. */
 enum {
     AVM_DONE = 0,                 /* nothing was refused                                                                    */
     AVM_BAD_MEMORY_LENGTH = 1,    /* m is not a power of two from AVM_WORDS_FEWEST to AVM_WORDS_MOST                        */

@@ -1,25 +1,27 @@
 # The engine's C calls (include/schoonleech.h): answers worked out by hand, and seeded random comparisons with the second simulator
 # (tests/simulator), with every lent place between guard pages.
 #
-# SCHOONLEECH_LIB     an archive to test instead of the proved one
-# SCHOONLEECH_ROUNDS  how many times the usual number of random cases
+# SCHOONLEECH_LIB        an archive to test instead of the proved one
+# SCHOONLEECH_BOARD_LIB  an archive to test instead of the board's proved one
+# SCHOONLEECH_ROUNDS     how many times the usual number of random cases
 . tests/host/counting.bash
 . tests/host/x86_64.bash
 . tests/host/library.bash
 
 [ -n "${SCHOONLEECH_LIB:-}" ] || one "the library is proved" prove_library
+[ -n "${SCHOONLEECH_BOARD_LIB:-}" ] || { rt_or_skip; one "the board's library is proved" prove_board_library; }
 [ "$failed" -eq 0 ] || finish
 
 strict="-O2 -Wall -Wextra -Werror"
 use=tests/engine/header_use.c
 
-one "the header is C99 without extensions" $cc -std=c99 -pedantic-errors $strict -o "$work/use-c" $use "$library"
+one "the header is C99 without extensions" $cc -std=c99 -pedantic-errors $strict -o "$work/use-c" $use "$library" "$board_library"
 one ".. and its calls and numbers fit in C" $emulator "$work/use-c"
-one "the header is C++" $cxx -pedantic-errors $strict -o "$work/use-cpp" -x c++ $use -x none "$library"
+one "the header is C++" $cxx -pedantic-errors $strict -o "$work/use-cpp" -x c++ $use -x none "$library" "$board_library"
 one ".. and its calls and numbers fit in C++" $emulator "$work/use-cpp"
 
 sources=$(ls tests/engine/*.c | grep -v header_use)
-one "tests and second simulator compile" $cc -std=c99 $strict -o "$work/tests" $sources tests/simulator/*.c "$library"
+one "tests and second simulator compile" $cc -std=c99 $strict -o "$work/tests" $sources tests/simulator/*.c "$library" "$board_library"
 [ -x "$work/tests" ] || finish
 
 $emulator "$work/tests" >"$work/out" 2>&1

@@ -1,13 +1,16 @@
 # The tests of the C calls (tests/engine) can fail. Each fault of tests/faults is planted in a copy of the second simulator, alone, and
-# the tests must find it: an answer or a lent place that is not as it must be. The copy without a fault must pass all of them.
+# the tests must find it: an answer or a lent place that is not as it must be. The copy without a fault must pass all of them. Where
+# programs need an emulator each of these takes seconds: then one fault in six is tried, and that the copy passes is left to engine.sh.
 #
-# SCHOONLEECH_LIB  an archive to test instead of the proved one
+# SCHOONLEECH_LIB        an archive to test instead of the proved one
+# SCHOONLEECH_BOARD_LIB  an archive to test instead of the board's proved one
 . tests/host/counting.bash
 . tests/host/x86_64.bash
 . tests/host/library.bash
 . tests/faults/planting.bash
 
 [ -n "${SCHOONLEECH_LIB:-}" ] || one "the library is proved" prove_library
+[ -n "${SCHOONLEECH_BOARD_LIB:-}" ] || { rt_or_skip; one "the board's library is proved" prove_board_library; }
 [ "$failed" -eq 0 ] || finish
 
 top=$PWD
@@ -28,6 +31,8 @@ one "tests and second simulator compile" compile_all
 about() { # FILE
     case $1 in
     instructions.c) echo instructions flow ;;
+    board.c) echo boards board_refusals random_boards ;;
+    lent.c) echo refusals ;;
     simulator.c) echo refusals step_refusals walk_refusals walks reads writes ;;
     walks.c) echo walk_refusals walks ;;
     images.c) echo reads writes read_refusals ;;
@@ -42,7 +47,7 @@ seconds_planted=100 seconds_unchanged=1000
 run_tests() { # SECONDS PROGRAM WORDS OBJECT..
     local seconds=$1 program=$2 words=$3
     shift 3
-    $cc -o "$program" "$work"/engine/*.o "$@" "$library" && timeout "$seconds" $emulator "$program" first $words
+    $cc -o "$program" "$work"/engine/*.o "$@" "$library" "$board_library" && timeout "$seconds" $emulator "$program" first $words
 }
 
 show_end() { # OUTPUT
@@ -79,22 +84,32 @@ without_a_fault() {
     fi
 }
 
-without_a_fault >"$work/unchanged" &
-for fault in tests/faults/*.fault; do
+faults=(tests/faults/*.fault)
+if [ -z "$emulator" ]; then
+    tried="unchanged"
+    without_a_fault >"$work/unchanged.result" &
+else
+    tried=
+    for place in "${!faults[@]}"; do
+        [ $((place % 6)) -eq 0 ] || unset "faults[place]"
+    done
+fi
+tried+=" $(basename -a -s .fault "${faults[@]}")"
+for fault in "${faults[@]}"; do
     while [ "$(jobs -rp | wc -l)" -ge 2 ]; do wait -n; done
-    try "$fault" >"$work/$(basename "$fault")" 2>&1 &
+    try "$fault" >"$work/$(basename "$fault" .fault).result" 2>&1 &
 done
 wait
 
-cat "$work/unchanged" "$work"/*.fault >"$work/results"
+cat "$work"/*.result >"$work/results"
 cat "$work/results"
 passed=$((passed + $(grep -c '^passed' "$work/results"))) failed=$((failed + $(grep -c '^FAILED' "$work/results")))
 
 one_result_each() {
     local name
-    for name in unchanged $(basename -a tests/faults/*.fault); do
-        [ "$(grep -c '^passed\|^FAILED' "$work/$name")" = 1 ] || { echo "$name has none, or more than one"; return 1; }
+    for name in $tried; do
+        [ "$(grep -c '^passed\|^FAILED' "$work/$name.result")" = 1 ] || { echo "$name has none, or more than one"; return 1; }
     done
 }
-one "each fault and the copy without one has a result" one_result_each
+one "each of ${#faults[@]} faults has a result" one_result_each
 finish

@@ -4,6 +4,7 @@
 # faults that are planted in the second simulator.
 #
 # SCHOONLEECH_LIB           an archive to test instead of the proved one
+# SCHOONLEECH_BOARD_LIB     an archive to test instead of the board's proved one
 # SCHOONLEECH_FUZZ_SECONDS  how long to look for a difference, instead of the fixed number of inputs
 . tests/host/counting.bash
 . tests/host/installing.bash
@@ -26,6 +27,7 @@ links_a_target || install_packages clang libclang-rt-dev
 links_a_target || { echo "there is no clang with libFuzzer here and it can't be installed"; exit 77; }
 
 [ -n "${SCHOONLEECH_LIB:-}" ] || one "the library is proved" prove_library
+[ -n "${SCHOONLEECH_BOARD_LIB:-}" ] || { rt_or_skip; one "the board's library is proved" prove_board_library; }
 [ "$failed" -eq 0 ] || finish
 
 top=$PWD
@@ -45,14 +47,14 @@ compile_target() {
 link_target() { # PROGRAM SIMULATOR-OBJECT..
     local program=$1
     shift
-    clang -fsanitize=fuzzer,$sanitizers -o "$program" "$work"/target/*.o "$@" "$library"
+    clang -fsanitize=fuzzer,$sanitizers -o "$program" "$work"/target/*.o "$@" "$library" "$board_library"
 }
 
 # For each call some inputs without a meaning. Then those for the numbers that would come late: texts to read (call 4; 9 is the second
 # one, repeated), and stores to check (call 3; no word, and a circle).
 make_seeds() {
     local call stride place byte seed number=0
-    for call in {0..7}; do
+    for call in {0..9}; do
         for stride in 1 37 89; do
             seed="\\x0$call"
             for ((place = 0; place < 500; place++)); do

@@ -72,11 +72,11 @@ avm_answer compare_check(enum side side)
     return want;
 }
 
-avm_answer compare_phase(const struct both *both, uint8_t request)
+avm_answer compare_next(one_request_call *call, const struct both *both, uint8_t request)
 {
-    avm_answer want = call_phase(&simulator, &both->mine, request);
+    avm_answer want = call(&simulator, &both->mine, request);
 
-    compare_answers(call_phase(&engine, &both->lent, request), want);
+    compare_answers(call(&engine, &both->lent, request), want);
     expect_same_places("engine", &both->lent, &both->mine);
     return want;
 }
@@ -128,9 +128,8 @@ void expect_compared(uint64_t compared, uint64_t least, const char *what)
     remark(" (%llu %s)", (unsigned long long)compared, what);
 }
 
-static void note_step(const struct places *places, bool request)
+void note_step(uint32_t psw, uint32_t word, bool request)
 {
-    uint32_t psw = places->state[AVM_PSW], word = places->memory[places->state[AVM_PC] % places->m];
     bool sm = psw & SM, ie = psw & IE;
 
     seen.steps[sm][request && ie ? INTERRUPT_STEP : word >> 26 & 31]++;
@@ -141,7 +140,7 @@ void step_alone(const struct places *mine, uint8_t request)
 {
     struct places one = *mine;
 
-    note_step(mine, request);
+    note_step(mine->state[AVM_PSW], mine->memory[mine->state[AVM_PC] % mine->m], request);
     one.requests = &request;
     one.bytes = 1;
     expect_same_answer("second simulator", call_steps(&simulator, &one), done(0, 1));

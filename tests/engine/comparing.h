@@ -38,8 +38,10 @@ typedef avm_answer one_call(const struct implementation *implementation, const s
 avm_answer compare_call(one_call *call, enum side side);
 avm_answer compare_check(enum side side);
 
-/* The same of one phase, in a sequence of calls on places that both have. */
-avm_answer compare_phase(const struct both *both, uint8_t request);
+/* The same of a call with one request, in a sequence of calls on places that both have; what lies around them is left to the caller. */
+typedef avm_answer one_request_call(const struct implementation *implementation, const struct places *places, uint8_t request);
+
+avm_answer compare_next(one_request_call *call, const struct both *both, uint8_t request);
 
 /* The same of an image that is read and of one that is written. */
 avm_answer compare_read(const struct lent_image *image, enum side side);
@@ -56,6 +58,9 @@ void expect_compared(uint64_t compared, uint64_t least, const char *what);
 
 /* One step of the second simulator on one's own places; it is noted. */
 void step_alone(const struct places *mine, uint8_t request);
+
+/* Notes a step that is about to be done: the PSW before it, the word of memory at PC, and its request. */
+void note_step(uint32_t psw, uint32_t word, bool request);
 
 /* A comparison of steps shows something only where every instruction and the interrupt step came in both modes, and requests in vain. */
 void expect_every_step_seen(void);

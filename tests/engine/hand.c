@@ -120,6 +120,7 @@ void start(struct inputs *in)
     in->latches[AVM_ALATCH] = 0xF0000001u;
     in->latches[AVM_BLATCH] = 0xF0000002u;
     in->mir = pack(idle());
+    in->board = board_of(in->registers, in->state);
 }
 
 void start_at_instruction(struct inputs *in, uint32_t instruction)
@@ -204,18 +205,20 @@ static void expect_outcome(const char *who, avm_answer got, avm_answer want, con
     expect_nothing_beyond(who);
 }
 
-enum call { RUN, PHASE, STEPS };
+enum call { RUN, PHASE, STEPS, BOARD_MICROCYCLE, BOARD_INSTRUCTION };
 
 static avm_answer call(enum call which, const struct implementation *implementation, const struct places *places, uint8_t request)
 {
     switch (which) {
     case RUN: return call_run(implementation, places);
     case PHASE: return call_phase(implementation, places, request);
+    case BOARD_MICROCYCLE: return call_board_microcycle(implementation, places, request);
+    case BOARD_INSTRUCTION: return call_board_instruction(implementation, places, request);
     default: return call_steps(implementation, places);
     }
 }
 
-/* The request is that of a phase call. */
+/* The request is that of a call which takes one. */
 static void check(enum call which, const struct inputs *before, const struct inputs *after, avm_answer want, uint8_t request)
 {
     int who, side;
@@ -242,6 +245,16 @@ void check_phase(const struct inputs *before, const struct inputs *after, avm_an
 void check_steps(const struct inputs *before, const struct inputs *after, avm_answer want)
 {
     check(STEPS, before, after, want, 0);
+}
+
+void check_board_microcycle(const struct inputs *before, const struct inputs *after, avm_answer want, uint8_t request)
+{
+    check(BOARD_MICROCYCLE, before, after, want, request);
+}
+
+void check_board_instruction(const struct inputs *before, const struct inputs *after, avm_answer want, uint8_t request)
+{
+    check(BOARD_INSTRUCTION, before, after, want, request);
 }
 
 void check_walks(const struct inputs *store, avm_answer want)

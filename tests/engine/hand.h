@@ -29,7 +29,7 @@ uint32_t format_3(unsigned opcode, unsigned dest);
 uint32_t format_4(unsigned opcode);
 
 /* Inputs that no call refuses, with something of its own in every word: a program of one idle word, 16 words of memory, PC 3, MPC 0, one
-   request byte 0, and nothing in the PSW. */
+   request byte 0, and nothing in the PSW. The board has the same registers and state words. */
 void start(struct inputs *inputs);
 
 /* The same with that instruction at PC. MPC is one that only steps take. */
@@ -55,6 +55,8 @@ avm_answer taken(uint64_t at); /* of an image: 0 where it was read, its bytes wh
 void check_run(const struct inputs *before, const struct inputs *after, avm_answer want);
 void check_phase(const struct inputs *before, const struct inputs *after, avm_answer want, uint8_t request);
 void check_steps(const struct inputs *before, const struct inputs *after, avm_answer want);
+void check_board_microcycle(const struct inputs *before, const struct inputs *after, avm_answer want, uint8_t request);
+void check_board_instruction(const struct inputs *before, const struct inputs *after, avm_answer want, uint8_t request);
 
 /* Expects avm_check's answer of both, on both sides of a guard page. Nothing is lent but the program, which can't be written. */
 void check_walks(const struct inputs *store, avm_answer want);
@@ -66,5 +68,6 @@ extern const struct test word_tests[], program_tests[], phase_tests[], refusal_t
 extern const struct test instruction_tests[], flow_tests[], step_refusal_tests[], published_tests[], random_step_tests[];
 extern const struct test walk_tests[], walk_refusal_tests[], stack_tests[], random_walk_tests[];
 extern const struct test read_tests[], read_refusal_tests[], write_tests[], random_image_tests[];
+extern const struct test board_tests[], board_refusal_tests[], random_board_tests[];
 
 #endif

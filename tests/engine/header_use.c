@@ -23,6 +23,13 @@ static int places_fit(void)
            sizeof(avm_answer) == 32 && sizeof(avm_microcycles) == 8 && sizeof(avm_instructions) == 8;
 }
 
+static int board_fits(void)
+{
+    return sizeof(avm_board) == 156 && offsetof(avm_board, registers) == 0 && offsetof(avm_board, psw) == 128 &&
+           offsetof(avm_board, pc) == 132 && offsetof(avm_board, ir) == 136 && offsetof(avm_board, mar) == 140 &&
+           offsetof(avm_board, mbr) == 144 && offsetof(avm_board, mpc) == 148 && offsetof(avm_board, ivec) == 152;
+}
+
 /* A microprogram of one word that leads to itself: two microcycles, two returns, and then phase one. */
 static int calls_fit(void)
 {
@@ -54,6 +61,26 @@ static int steps_fit(void)
         return 0;
     answer = avm_steps(memory, AVM_WORDS_FEWEST, registers, AVM_REGISTERS, state, requests, 4);
     return answer.number == AVM_BAD_REQUEST && answer.at == 3 && answer.steps.count == 0 && state[AVM_PC] == 3;
+}
+
+/* One record for both calls: a microcycle of that microprogram, which comes back to fetch, and the jump that is not taken. A request of 3
+   is for a microcycle alone. */
+static int board_calls_fit(void)
+{
+    const uint64_t program[1] = {UINT64_C(0x742D800040)};
+    uint32_t memory[AVM_WORDS_FEWEST] = {0};
+    avm_board board = {{0}, 0, 0, 0, 0, 0, 0, 0};
+    avm_answer answer;
+
+    board.psw = 0x40;
+    answer = avm_board_instruction(&board, memory, AVM_WORDS_FEWEST, 3);
+    if (answer.number != AVM_BAD_REQUEST || answer.at != 0 || board.psw != 0x40)
+        return 0;
+    answer = avm_board_microcycle(&board, program, 1, memory, AVM_WORDS_FEWEST, 3);
+    if (answer.number != AVM_DONE || answer.microcycles.count != 1 || answer.steps.count != 1 || board.psw != 0)
+        return 0;
+    answer = avm_board_instruction(&board, memory, AVM_WORDS_FEWEST, 0);
+    return answer.number == AVM_DONE && answer.microcycles.count == 0 && answer.steps.count == 1 && board.pc == 1 && board.mpc == 0;
 }
 
 /* The published microprogram does the same jump in four microcycles, one step. */
@@ -112,7 +139,7 @@ static int image_fits(void)
 
 int main(void)
 {
-    int names_fit = limits_fit() && numbers_fit() && places_fit();
+    int names_fit = limits_fit() && numbers_fit() && places_fit() && board_fits();
 
-    return names_fit && calls_fit() && steps_fit() && published_fits() && check_fits() && image_fits() ? 0 : 1;
+    return names_fit && calls_fit() && steps_fit() && board_calls_fit() && published_fits() && check_fits() && image_fits() ? 0 : 1;
 }

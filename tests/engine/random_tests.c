@@ -76,7 +76,7 @@ static uint64_t phases_case(struct dice *dice, enum side side)
         if (dice_chance(dice, 5))
             change_both(dice, &both);
         /* a microword that leaves would be refused for ever */
-        if (compare_phase(&both, (uint8_t)dice_below(dice, 4)).number == AVM_LEFT_PROGRAM)
+        if (compare_next(call_phase, &both, (uint8_t)dice_below(dice, 4)).number == AVM_LEFT_PROGRAM)
             *both.lent.mir = *both.mine.mir = pack(idle());
     }
     expect_nothing_beyond("engine");
@@ -98,7 +98,7 @@ static uint64_t damaged_phase_case(struct dice *dice, enum side side)
 
     draw_damage(dice, &drawn);
     both = lend_both(side);
-    compare_phase(&both, (uint8_t)(dice_chance(dice, 20) ? dice_below(dice, 256) : dice_below(dice, 4)));
+    compare_next(call_phase, &both, (uint8_t)(dice_chance(dice, 20) ? dice_below(dice, 256) : dice_below(dice, 4)));
     expect_nothing_beyond("engine");
     return 1;
 }

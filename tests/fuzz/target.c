@@ -19,18 +19,22 @@ static void run(struct bytes *bytes, enum side side)
     compare_call(call_run, side);
 }
 
-/* A call for each request byte. */
-static void phases(struct bytes *bytes, enum side side)
+/* A call for each request byte, all of them on the same places. */
+static void compare_each(one_request_call *call, enum side side)
 {
-    struct both both;
+    struct both both = lend_both(side);
     size_t place;
 
+    for (place = 0; place < drawn.bytes && holds_so_far(); place++)
+        compare_next(call, &both, drawn.requests[place]);
+    expect_nothing_beyond("engine");
+}
+
+static void phases(struct bytes *bytes, enum side side)
+{
     take_program(bytes, &drawn);
     take_machine(bytes, &drawn, 3);
-    both = lend_both(side);
-    for (place = 0; place < drawn.bytes && holds_so_far(); place++)
-        compare_phase(&both, drawn.requests[place]);
-    expect_nothing_beyond("engine");
+    compare_each(call_phase, side);
 }
 
 static void steps(struct bytes *bytes, enum side side)
@@ -64,6 +68,22 @@ static void write_memory(struct bytes *bytes, enum side side)
     compare_write(&image, side);
 }
 
+static void board_microcycles(struct bytes *bytes, enum side side)
+{
+    take_program(bytes, &drawn);
+    take_machine(bytes, &drawn, 3);
+    drawn.board = board_of(drawn.registers, drawn.state);
+    compare_each(call_board_microcycle, side);
+}
+
+static void board_instructions(struct bytes *bytes, enum side side)
+{
+    drawn.words = 0;
+    take_machine(bytes, &drawn, 1);
+    drawn.board = board_of(drawn.registers, drawn.state);
+    compare_each(call_board_instruction, side);
+}
+
 /* A machine that is refused has no returns. */
 static void returns(struct bytes *bytes, enum side side)
 {
@@ -86,6 +106,8 @@ static const struct {
     {"avm_read of records", read_records},
     {"avm_write", write_memory},
     {"a run of the published microprogram against steps", returns},
+    {"avm_board_microcycle", board_microcycles},
+    {"avm_board_instruction", board_instructions},
 };
 
 /* Fuzzing shows something only where every answer came. */

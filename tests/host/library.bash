@@ -1,12 +1,21 @@
-# Sets `library`, the archive of the C calls (include/schoonleech.h) that a script links. `prove_library` proves it and writes it where it
-# is not there, or a crate or the kit changed after it was begun: that takes half a minute, and several scripts need it. Without the kit's
-# rt the script that reads this file ends with 77.
+# Sets `library` and `board_library`, the two archives of the C calls (include/schoonleech.h) that a script links. `prove_library` and
+# `prove_board_library` prove the one and the other, and write it where it is not there, or a crate or the kit changed after it was begun:
+# that takes up to half a minute, and several scripts need it.
 #
-# SCHOONLEECH_LIB  an archive to use instead of the proved one; rt is then not run
+# SCHOONLEECH_LIB        an archive to use instead of the proved one; rt is then not run for it
+# SCHOONLEECH_BOARD_LIB  an archive to use instead of the board's proved one; rt is then not run for it
+#
+# Without the kit's rt the script that reads this file ends with 77 where nothing stands in for the first archive, which every script links.
+# One that links the second too ends so where it calls `rt_or_skip` or `prove_board_library` and nothing stands in for that one.
 
 . tests/host/alone.bash
 
 library=${SCHOONLEECH_LIB:-target/staticlib/libgrader.a}
+board_library=${SCHOONLEECH_BOARD_LIB:-target/staticlib/libboard.a}
+
+rt_or_skip() {
+    command -v rt >/dev/null || { echo "the Rattle kit's rt is not on the PATH"; exit 77; }
+}
 
 # What is another file where the kit is another one: rt's name on the PATH, which may be a link, the file it leads to, and the kit's
 # identity, found as rt itself finds it.
@@ -21,27 +30,31 @@ kit_files() {
 
 # A crate changed when it was written. A kit's files keep the time at which it was packed, which says nothing about when it came here: of
 # them the time of change counts (the c of -newercm), which is that of their installation.
-library_is_fresh() {
+is_fresh() { # ARCHIVE
     local newer kit
-    [ -f "$library" ] || return 1
+    [ -f "$1" ] || return 1
     mapfile -t kit < <(kit_files)
-    newer=$(find crates crates.txt -newer "$library" -print -quit && find "${kit[@]}" -newercm "$library" -print -quit) || return 1
+    newer=$(find crates crates.txt -newer "$1" -print -quit && find "${kit[@]}" -newercm "$1" -print -quit) || return 1
     [ -z "$newer" ]
 }
 
 # An archive is as old as its beginning, so that a change during the proof makes it stale.
-prove_if_stale() {
+prove_if_stale() { # CRATE ARCHIVE
     local began status
-    library_is_fresh && return 0
+    is_fresh "$2" && return 0
     began=$(mktemp)
-    rt staticlib grader && touch -r "$began" "$library"
+    rt staticlib "$1" && touch -r "$began" "$2"
     status=$?
     rm -f "$began"
     return $status
 }
 
 prove_library() {
-    [ -n "${SCHOONLEECH_LIB:-}" ] || alone prove_if_stale
+    [ -n "${SCHOONLEECH_LIB:-}" ] || alone prove_if_stale grader "$library"
 }
 
-[ -n "${SCHOONLEECH_LIB:-}" ] || command -v rt >/dev/null || { echo "the Rattle kit's rt is not on the PATH"; exit 77; }
+prove_board_library() {
+    [ -n "${SCHOONLEECH_BOARD_LIB:-}" ] || { rt_or_skip && alone prove_if_stale board "$board_library"; }
+}
+
+[ -n "${SCHOONLEECH_LIB:-}" ] || rt_or_skip

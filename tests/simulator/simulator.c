@@ -2,68 +2,17 @@
 
 #include "images.h"
 #include "instructions.h"
+#include "lent.h"
 #include "microword.h"
 #include "phases.h"
 #include "walks.h"
 #include "words.h"
-
-static avm_answer numbered(uint64_t number, uint64_t at)
-{
-    avm_answer answer = {number, at, {0}, {0}};
-
-    return answer;
-}
-
-static bool is_power_of_two_in_range(size_t m)
-{
-    size_t power;
-
-    for (power = 16; power <= 16384; power *= 2)
-        if (m == power)
-            return true;
-    return false;
-}
-
-/* Numbers 1 to 3 of the scope, the lowest first, for the calls that have a machine. */
-static avm_answer test_machine(size_t m, const uint32_t *registers, size_t count)
-{
-    if (!is_power_of_two_in_range(m))
-        return numbered(AVM_BAD_MEMORY_LENGTH, 0);
-    if (count != 32)
-        return numbered(AVM_BAD_REGISTER_COUNT, 0);
-    if (registers[0] != 0)
-        return numbered(AVM_REGISTER_0_NOT_ZERO, 0);
-    return numbered(AVM_DONE, 0);
-}
-
-/* Numbers 4 and 5, for the calls that have a microprogram. */
-static avm_answer test_program(const uint64_t *program, size_t words)
-{
-    size_t word;
-
-    if (words < 1 || words > 64)
-        return numbered(AVM_BAD_PROGRAM_LENGTH, 0);
-    for (word = 0; word < words; word++)
-        if (!microword_is_legal(program[word]))
-            return numbered(AVM_BAD_MICROWORD, word);
-    return numbered(AVM_DONE, 0);
-}
 
 static avm_answer test_lent(const struct store *store, const uint32_t *registers, size_t count)
 {
     avm_answer answer = test_machine(store->m, registers, count);
 
     return answer.number != AVM_DONE ? answer : test_program(store->urom, store->words);
-}
-
-static avm_answer test_requests(const uint8_t *requests, size_t bytes, uint8_t highest)
-{
-    size_t place;
-
-    for (place = 0; place < bytes; place++)
-        if (requests[place] > highest)
-            return numbered(AVM_BAD_REQUEST, place);
-    return numbered(AVM_DONE, 0);
 }
 
 static avm_answer test_run(const struct store *store, const uint32_t *registers, size_t count, const uint32_t *state,
@@ -93,12 +42,6 @@ static avm_answer test_phase(const struct store *store, const uint32_t *register
     if (request > 3)
         return numbered(AVM_BAD_REQUEST, 0);
     return numbered(AVM_DONE, 0);
-}
-
-/* Bit 0 is the interrupt request. Bit 1 is reset, which no definition of the source reads. */
-static bool interrupt_line(uint8_t request)
-{
-    return request & 1;
 }
 
 static void load_state(struct machine *machine, const uint32_t *state)
