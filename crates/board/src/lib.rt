@@ -1,5 +1,5 @@
 // The bench board: one record that a display keeps. Each call takes it where it stands, advances it
-// by value and stores it back. Every function is total; specs/ says what each answers.
+// by value and stores it back. Every function is total; the crate boards says what each answers.
 ghost use mathlib.Core.Path.{_≡_};
 ghost use Rattle.boards.specs.Board.{found, left, seen, shown-on, board-microcycle, board-instruction};
 use answers::Microcycles;

@@ -1,14 +1,12 @@
--- The bench board: the micro level's state as one record, lent to a call and advanced where it stands (the scope, on what is delivered).
--- A microcycle is a run over one request byte, an instruction a macro step over one. Assumes nothing.
+-- The bench board: the micro level's state as one record, lent to a call and advanced where it stands, by one microcycle or by one
+-- instruction, which is one macro step and keeps IR, MAR, MBR and MPC (the scope, on the machine that ships). Assumes nothing.
 use Prim.Native.Nat.{ℕ}
 use mathlib.Core.List.{List, [], _∷_}
 use Rattle.lending.specs.declared.Answer.{Answer}
 use Rattle.lending.specs.Answers.{answered}
 use Rattle.runs.specs.declared.MicroState.{MicroState}
-use Rattle.runs.specs.declared.MicroAnswer.{MicroAnswer}
 use Rattle.runs.specs.Run as micro
 use Rattle.steps.specs.declared.MacroState.{MacroState}
-use Rattle.steps.specs.declared.MacroAnswer.{MacroAnswer}
 use Rattle.steps.specs.Run as macro
 use Rattle.boards.specs.declared.Moved.{Moved}
 
@@ -22,9 +20,11 @@ pub record Left : Type 0 where
 abbrev pub found : Answer → MicroState → List ℕ → Left
 found answer board mem = record { answer = answer; board = board; memory = mem }
 
+-- .. and after a call that hands the board back by value
 abbrev pub left : Moved → List ℕ → Left
 left m mem = found (m .answer) (m .board) mem
 
+-- a call of the micro level, answered as every C call is
 abbrev pub micro-left : micro.MicroCalled → Left
 micro-left called =
     record {
@@ -33,6 +33,7 @@ micro-left called =
       memory = called .memory;
     }
 
+-- one microcycle: a run over one request byte
 unfoldable pub board-microcycle : MicroState → List ℕ → List ℕ → ℕ → Left
 board-microcycle board program mem request = micro-left (micro.run program mem board (request ∷ []))
 
@@ -54,6 +55,7 @@ shown-on board s =
       ivec = s .ivec;
     }
 
+-- a call of the macro level on what it sees of the board; it counts no microcycles
 abbrev pub macro-left : MicroState → macro.MacroCalled → Left
 macro-left board called =
     record {
@@ -62,5 +64,6 @@ macro-left board called =
       memory = called .memory;
     }
 
+-- one instruction: a step over one request byte
 unfoldable pub board-instruction : MicroState → List ℕ → ℕ → Left
 board-instruction board mem request = macro-left board (macro.run mem (seen board) (request ∷ []))
