@@ -1,7 +1,5 @@
 #include "keys.h"
 
-#include <string.h>
-
 #include "../grader/numbers.h"
 
 const char *const help_lines[HELP_LINES] = {
@@ -17,7 +15,7 @@ const char *const help_lines[HELP_LINES] = {
     "",
     "Words are hexadecimal; addresses of memory words and of microwords, immediates",
     "and counts are decimal. A star, and reverse video on a terminal, marks what the",
-    "last m, i or f changed. A > stands before the word that PC, MAR or r1 leads to.",
+    "last move changed. A > stands before the word that PC, MAR or r1 leads to.",
     "",
     "A call that is refused changes nothing. The lines above the last one then have",
     "its number and what that means.",
@@ -113,7 +111,7 @@ static void say_unknown(struct session *session, char key)
 void press(struct session *session, char key)
 {
     session->help = key == '?' && !session->help;
-    session->running = session->running && strchr("mif", key) == NULL;
+    session->running = session->running && key != 'm' && key != 'i' && key != 'f';
     switch (key) {
     case 'm': microcycle(session); break;
     case 'i': step(session); break;

@@ -60,12 +60,13 @@ static void show_on_terminal(struct session *session)
     session->on_terminal = true;
     while (!session->ended && event != ENDED && !ferror(stdout)) {
         struct size size = terminal_size();
-        bool ran = session->running, runs = ran && fits_on(size);
+        bool ran = session->running, runs = ran && fits_on(size) && !session->help;
+        double left = due - seconds_now();
 
         if (event == RESIZED)
             fputs("\033[2J", stdout);
         paint_panel(session, size);
-        event = wait_for_event(!runs ? -1 : due > seconds_now() ? due - seconds_now() : 0, &key);
+        event = wait_for_event(!runs ? -1 : left > 0 ? left : 0, &key);
         if (event == KEY && (key == 'q' || fits_on(size)))
             press(session, key);
         if (event == TIME && runs)
@@ -88,6 +89,10 @@ static enum status serve(char **words, struct complaint *complaint)
         return complaint->status;
     } else if (options.frames || !take_terminal()) {
         show_frames(&session);
+        if (ferror(stdin)) {
+            complain(complaint, BAD_FILE, "display", 0, "standard input can't be read");
+            return BAD_FILE;
+        }
     } else {
         show_on_terminal(&session);
         give_terminal_back();

@@ -135,15 +135,22 @@ static void draw_window(struct frame *frame, const struct bench *bench, size_t r
     }
 }
 
-/* A change that no window shows is seen here. A microcycle or a step changes one word of memory at most. */
+/* A change that no window shows is seen here. A microcycle or a step changes one word of memory at most; more may come together on the way
+   to a fetch point, and the first of them are shown. */
 static void draw_changed(struct frame *frame, const struct bench *bench)
 {
+    enum { ENTRY = sizeof "  16383 *FFFFFFFF  .." - 1 };
     size_t column = 0, at;
 
-    for (at = 0; at < bench->m; at++)
+    for (at = 0; at < bench->m && column + ENTRY <= FRAME_COLUMNS; at++)
         if (bench->now.memory[at] != bench->before.memory[at]) {
             column = column > 0 ? column + 2 : put(frame, CHANGED_ROW, 0, "changed in memory  ");
             column = put(frame, CHANGED_ROW, column, "%zu *%08lX", at, (unsigned long)bench->now.memory[at]);
+        }
+    for (; at < bench->m; at++)
+        if (bench->now.memory[at] != bench->before.memory[at]) {
+            put(frame, CHANGED_ROW, column, "  ..");
+            return;
         }
 }
 

@@ -111,11 +111,11 @@ enum event wait_for_event(double seconds, char *key)
 
     if (ending != 0 || (ready < 0 && errno != EINTR))
         return ENDED;
-    if (resized) {
+    if (resized || ready < 0) {
         resized = 0;
         return RESIZED;
     }
-    if (ready <= 0)
+    if (ready == 0)
         return TIME;
     return read(STDIN_FILENO, key, 1) == 1 ? KEY : ENDED;
 }

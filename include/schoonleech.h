@@ -72,7 +72,8 @@ typedef struct {
                                       line of the text, with 16 the bytes needed; of avm_write with 0: the bytes written    */
     avm_microcycles microcycles;   /* of avm_run and avm_board_microcycle with 0 and 8: the microcycles that they completed;
                                       of avm_check with 0: the length of the longest walk                                   */
-    avm_instructions steps;        /* of these two with 0 and 8: returns to fetch, those of them after which MPC is AVM_FETCH;
+    avm_instructions steps;        /* of avm_run and avm_board_microcycle with 0 and 8: returns to fetch, those of the
+                                      microcycles after which MPC is AVM_FETCH;
                                       of avm_steps and avm_board_instruction with 0: the steps that they did                */
 } avm_answer;
 
@@ -211,7 +212,8 @@ avm_answer avm_board_instruction(avm_board *board, uint32_t *memory, size_t m, u
 
    Number 0: accepted. microcycles is the length of the longest walk, from 1 to 64. That promises something of avm_run: a run of this
    program with MPC at AVM_FETCH is never answered with 8, and it is back at AVM_FETCH after at most that many microcycles, counted from the
-   start and from each return. Memory, registers, the rest of the state and the request bytes can be any that avm_run takes.
+   start and from each return. Memory, registers, the rest of the state and the request bytes can be any that avm_run takes. All that holds
+   of a board that is advanced by avm_board_microcycle too.
    Numbers 4 and 5: refused as by avm_run.
    Number 17: a walk can leave the microprogram. at is the lowest word that a walk reaches and that has a possible next address which is not
    below words.
@@ -268,7 +270,8 @@ avm_answer avm_write(const uint32_t *memory, size_t m, uint8_t *room, size_t byt
 
 /* The published microprogram: the microword at an address, which is taken modulo AVM_PROGRAM_MOST. It is lent nothing and refuses nothing.
 
-   It is a table of AVM_PROGRAM_MOST words, all of them good. To run it, make an array of it and lend that to avm_run or avm_phase:
+   It is a table of AVM_PROGRAM_MOST words, all of them good. To run it, make an array of it and lend that to avm_run, avm_phase or
+   avm_board_microcycle:
 
        uint64_t program[AVM_PROGRAM_MOST];
        size_t k;

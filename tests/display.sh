@@ -8,9 +8,7 @@
 . tests/host/library.bash
 . display/sources.bash
 
-[ -n "${SCHOONLEECH_LIB:-}" ] || one "the library is proved" prove_library
-[ -n "${SCHOONLEECH_BOARD_LIB:-}" ] || { rt_or_skip; one "the board's library is proved" prove_board_library; }
-[ "$failed" -eq 0 ] || finish
+prove_both
 
 strict="-std=c99 -pedantic-errors -O2 -Wall -Wextra -Werror -Iinclude"
 sanitizers="-fsanitize=address,undefined -fno-sanitize-recover=all"
@@ -463,48 +461,64 @@ every_instruction() {
 file next.microprogram "642D000040 # PC goes on\n"
 one "each instruction has its name and its operands" every_instruction
 
-microwords() { # three lines 'WORD: FIELDS' for each, from the page
-    awk -F ' *[|] *' '
+# The page's words, a line each: number, bits, operation, PSW and signals, parted by tabs.
+page_words() {
+    awk -F ' *[|] *' -v OFS='\t' '$2 ~ /^[0-9]+$/ && $6 ~ /^Oper/ { print $2, $5, $6, $7, $8 }' docs/MICROPROGRAM.md
+}
+fields_of_page() { # three lines for each word
+    page_words | awk -F '\t' '
     function has(text, name) { return text ~ ("[(, ]" name "[,)]") }
     function bit(is, name) { if (is) bits = bits (bits == "" ? "" : " ") name }
-    $2 ~ /^[0-9]+$/ && $6 ~ /^Oper/ {
-        gsub(/Oper\(|\)/, "", $6); split($6, oper, ", ")
-        match($9, /\(.*,/); condition = substr($9, RSTART + 1, RLENGTH - 2)
-        address = match($9, /[0-9]+/) ? substr($9, RSTART, RLENGTH) : 0
+    {
+        gsub(/Oper\(|\)/, "", $3); split($3, oper, ", ")
         bits = ""
-        bit(has($8, "i_ack"), "IACK"); bit(has($8, "in_fetch"), "FTCH"); bit(has($8, "rd"), "RD"); bit(has($8, "wr"), "WR")
-        print $2 ": " $5 "  COND " condition "  ADDR " address (bits == "" ? "" : "  ") bits
+        bit(has($5, "i_ack"), "IACK"); bit(has($5, "in_fetch"), "FTCH"); bit(has($5, "rd"), "RD"); bit(has($5, "wr"), "WR")
+        print $1 ": COND step  ADDR 0" (bits == "" ? "" : "  ") bits
         a = oper[3] == "noreg" || oper[3] == "mbr" ? "pc" : oper[3]; b = oper[5] == "noreg" ? "ir" : oper[5]
-        print $2 ": TRGT " oper[1] "  SHFT " oper[2] "  ALU " oper[4] "  SRCA " a "  SRCB " b
+        print $1 ": TRGT " oper[1] "  SHFT " oper[2] "  ALU " oper[4] "  SRCA " a "  SRCB " b
         bits = ""
         bit(oper[3] == "mbr", "AMUX"); bit(oper[6] ~ /^mar/, "MAR"); bit(oper[6] == "mbr", "MBR"); bit(oper[6] == "mar_gets_pc", "PMUX")
-        bit(has($7, "set_sm"), "S.SM"); bit(has($7, "clr_sm"), "C.SM"); bit(has($7, "set_ie"), "S.IE"); bit(has($7, "clr_ie"), "C.IE")
-        bit(has($7, "ld_from_alu") || has($7, "ld_from_shifter"), "LD.C"); bit(has($7, "ld_vf"), "LD.V"); bit(has($7, "ld_nf"), "LD.N")
-        bit(has($7, "ld_zf"), "LD.Z"); bit(has($7, "ld_from_alu"), "CSRC")
-        print $2 ":" (bits == "" ? "" : " ") bits
-    }' docs/MICROPROGRAM.md
+        bit(has($4, "set_sm"), "S.SM"); bit(has($4, "clr_sm"), "C.SM"); bit(has($4, "set_ie"), "S.IE"); bit(has($4, "clr_ie"), "C.IE")
+        bit(has($4, "ld_from_alu") || has($4, "ld_from_shifter"), "LD.C"); bit(has($4, "ld_vf"), "LD.V"); bit(has($4, "ld_nf"), "LD.N")
+        bit(has($4, "ld_zf"), "LD.Z"); bit(has($4, "ld_from_alu"), "CSRC")
+        print $1 ":" (bits == "" ? "" : " ") bits
+    }'
 }
+# COND and ADDR are made 0 in each word, so that MPC goes from one to the next.
 every_microword() {
-    local word
-    microwords >"$work/wanted"
-    for ((word = 0; word < 53; word++)); do
-        last_frame "" --published --mpc $word light.hex && sed -n "12,14{s/^at MPC  $word//;s/^ */$word: /;s/ *\$//;p}" "$work/frame"
-    done >"$work/shown"
-    [ "$(wc -l <"$work/wanted")" -eq 159 ] && diff "$work/wanted" "$work/shown"
+    local word bits rest
+    while read -r word bits rest; do printf '%010X\n' $((16#$bits & ~511)); done < <(page_words) >"$files/steps.microprogram"
+    echo 742D800040 >>"$files/steps.microprogram"
+    run plain "$(times 52 m)" --words 32 steps.microprogram light.hex
+    fields_of_page >"$work/wanted"
+    [ "$(wc -l <"$work/wanted")" -eq 159 ] && diff "$work/wanted" <(awk '
+        /^at MPC/ { word = $3; left = 3; sub(/^at MPC +[0-9]+ +[0-9A-F]+/, "") }
+        left-- > 0 { sub(/^ +/, ""); print word ":" ($0 == "" ? "" : " ") $0 }' "$work/out")
 }
 one "each microword has its fields" every_microword
 
 microword_is() { # ARGUMENT.. ; standard input has the three lines
     last_frame "" "$@" && diff - <(sed -n 12,14p "$work/frame")
 }
+condition_is() { # CONDITION WORD
+    file condition.microprogram "742D800040\n$2\n"
+    last_frame "" --mpc 1 --unchecked condition.microprogram light.hex && grep -qx "at MPC  1   $2  $1" "$work/frame" && return
+    cat "$work/frame"
+    return 1
+}
+one "a microword that steps" condition_is "COND step  ADDR 1" 742D800001
+one ".. that jumps" condition_is "COND jmp  ADDR 63" 742D80007F
+one ".. that jumps by the opcode" condition_is "COND jop  ADDR 0" 742D800080
+one ".. that jumps by the request" condition_is "COND jint  ADDR 49  RD" 742D8004F1
+one ".. that jumps by sm" condition_is "COND jsm  ADDR 32  WR" 742D800320
 file full.microprogram "FFFFFFFFFFFFFFFF\n"
 one "a microword with every bit set, and with codes that have no name" microword_is --unchecked full.microprogram light.hex <<'END'
 at MPC  0   FFFFFFFFFFFFFFFF  COND 7  ADDR 63  IACK FTCH RD WR
             TRGT 7  SHFT nsh  ALU 15  SRCA 7  SRCB 3
             AMUX MAR MBR PMUX S.SM C.SM S.IE C.IE LD.C LD.V LD.N LD.Z CSRC
 END
-one "an MPC that has no microword" microword_is --mpc 63 one.microprogram light.hex <<'END'
-at MPC  63  no word
+one "an MPC that has no microword" microword_is --mpc 1 one.microprogram light.hex <<'END'
+at MPC  1   no word
 
 
 END
@@ -548,11 +562,28 @@ one "the listing has the words of the image, by their names" listing_is_the_imag
 
 # A terminal. tests/display/terminal.c says what the commands of its scripts mean.
 
+# Where only one of the two is a terminal, or frames are asked for, frames are printed. script(1) gives the terminal.
+frames_in() { # COMMAND TYPED ; what the command prints on the terminal, or in $work/printed, must be the frame of the start
+    rm -f "$work/printed"
+    (cd "$files" && printf "$2" | script -qec "$1" "$work/typescript") >/dev/null || return 1
+    [ -f "$work/printed" ] || tr -d '\r' <"$work/typescript" >"$work/printed"
+    ! grep -q $'\033' "$work/printed" && grep -qx "Schoonleech: the published microprogram on light.hex" "$work/printed" && return
+    cat -v "$work/printed"
+    return 1
+}
+if command -v script >/dev/null; then
+    one "keys from a terminal, and output to a file" frames_in "$emulator $work/plain $light >$work/printed" "q\n"
+    one "keys from a pipe, and output to a terminal" frames_in "echo q | $emulator $work/plain $light" ""
+    one "frames on a terminal" frames_in "$emulator $work/plain --frames $light" "q\n"
+else
+    echo "there is no script here, so frames on a terminal are not tested"
+fi
+
 one "the pseudo-terminal's driver compiles" $cc $strict -o "$work/terminal" tests/display/*.c
 on_terminal() { # BUILD COLUMNS ROWS ARGUMENT.. ; standard input is the script
     (cd "$files" && $emulator "$work/terminal" "$2" "$3" $emulator "$work/$1" "${@:4}")
 }
-script() { # NAME ARGUMENT.. ; standard input is the script, for a terminal of 80 columns and 24 rows
+follows() { # NAME ARGUMENT.. ; standard input is the script, for a terminal of 80 columns and 24 rows
     local build name=$1
     shift
     cat >"$work/script"
@@ -564,7 +595,7 @@ run plain "mfrif??x" $light
 for key in 0 1 2 3 4 5 6 7 8; do
     tail -n +$((25 * key + 1)) "$work/out" | head -n 24 >"$files/frame.$key"
 done
-script "the screen is the plain frame after each key, and q gives the terminal back" $light <<'END'
+follows "the screen is the plain frame after each key, and q gives the terminal back" $light <<'END'
 taken
 screen frame.0
 type m
@@ -587,15 +618,15 @@ taken
 type q
 ended 0
 END
-script "space runs and pauses, + makes it faster, m and f pause too" $light <<'END'
+follows "space runs and pauses, + makes it faster, m and f pause too" $light <<'END'
 taken
 line paused, 4 microcycles a second
 code 32
 line running, 4 microcycles a second
-line microcycles 2 
+line microcycles 2   steps
 type ++++
 line running, 64 microcycles a second
-line microcycles 20 
+line microcycles 20   steps
 code 32
 line paused, 64 microcycles a second
 still
@@ -612,7 +643,7 @@ still
 type q
 ended 0
 END
-script "a run goes on while the request line moves, and a refused microcycle ends it" --unchecked leaves.microprogram light.hex <<'END'
+follows "a run goes on while the request line moves, and a refused microcycle ends it" --unchecked leaves.microprogram light.hex <<'END'
 taken
 type ----r
 line request up   paused, 1 microcycle a second
@@ -625,15 +656,16 @@ type q
 ended 0
 END
 for ending in "signal 15,143" "signal 2,130" "signal 1,129" "code 3,130"; do
-    script "the terminal is given back after ${ending%,*}" $light <<END
+    follows "the terminal is given back after ${ending%,*}" $light <<END
 taken
+type ++++
 code 32
-line microcycles 1 
+line microcycles 1   steps
 ${ending%,*}
 ended ${ending#*,}
 END
 done
-script "the key that would stop it does not" $light <<'END'
+follows "the key that would stop it does not" $light <<'END'
 taken
 code 26
 line no such key: code 26
@@ -642,10 +674,10 @@ line no such key: code 19
 type q
 ended 0
 END
-script "a smaller terminal gets a message and moves nothing, a higher one shows more memory" $light <<'END'
+follows "a smaller terminal gets a message and moves nothing, a higher one shows more memory" $light <<'END'
 taken
 type m
-line microcycles 1 
+line microcycles 1   steps
 resize 80 23
 line 80x24 needed, this is 80x23 (q quits)
 resize 79 24
@@ -656,11 +688,21 @@ erased 2
 type mm
 erased 4
 resize 80 25
-line microcycles 1 
+line microcycles 1   steps
 line      4  01C00000  JMP 14 r0 0
 resize 132 60
-line     29  00000000  JMP 0 r0 0
-line m microcycle  i step
+row 47     29  00000000  JMP 0 r0 0                29  00000000        19  00000000
+row 48
+row 58 a microcycle
+row 60 m microcycle  i step  f fetch  r request  space run  +- speed  ? keys  q quit
+type ++++
+code 32
+line running
+resize 10 5
+line 80x24 nee
+still
+resize 80 24
+line running
 resize 10 5
 line 80x24 nee
 type q

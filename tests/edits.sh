@@ -1,6 +1,6 @@
 # Each must-fail edit was refused because a fact fails: the first error of its log is about a proof, and not about the compiler, a name, a
 # field, a missing need, a loop's variables, the text's form or a rewriting that found nothing to rewrite, which would only show that the
-# edit made the proof file unfit for the code.
+# edit made the proof file unfit for the code. An edit with a line '# refused: TEXT' is refused with that text in its first error.
 other='error\[|named from here|not in scope|has no field|no record|projects from a record|was not admitted|Parse'
 other+='|error: `(Inv|μ)-|expected type `tie\.|no occurrence|has an instance|no part of the goal'
 passed=0 failed=0
@@ -14,6 +14,9 @@ for edit in crates/*/must-fail/*.edit; do
         failed=$((failed + 1))
     elif grep -qE "$other" <<<"$first"; then
         echo "edits: $edit is refused by something other than a fact: $first"
+        failed=$((failed + 1))
+    elif wanted=$(sed -n 's/^# refused: //p' "$edit") && [ -n "$wanted" ] && ! grep -qF "$wanted" <<<"$first"; then
+        echo "edits: $edit is not refused with '$wanted': $first"
         failed=$((failed + 1))
     else
         passed=$((passed + 1))

@@ -3,14 +3,12 @@
 #
 # SCHOONLEECH_LIB        an archive to test instead of the proved one
 # SCHOONLEECH_BOARD_LIB  an archive to test instead of the board's proved one
-# SCHOONLEECH_ROUNDS     how many times the usual number of random cases
+# SCHOONLEECH_ROUNDS     how many times the usual number of random cases; 1, and 1/4 where programs need an emulator
 . tests/host/counting.bash
 . tests/host/x86_64.bash
 . tests/host/library.bash
 
-[ -n "${SCHOONLEECH_LIB:-}" ] || one "the library is proved" prove_library
-[ -n "${SCHOONLEECH_BOARD_LIB:-}" ] || { rt_or_skip; one "the board's library is proved" prove_board_library; }
-[ "$failed" -eq 0 ] || finish
+prove_both
 
 strict="-O2 -Wall -Wextra -Werror"
 use=tests/engine/header_use.c
@@ -24,6 +22,7 @@ sources=$(ls tests/engine/*.c | grep -v header_use)
 one "tests and second simulator compile" $cc -std=c99 $strict -o "$work/tests" $sources tests/simulator/*.c "$library" "$board_library"
 [ -x "$work/tests" ] || finish
 
+[ -z "$emulator" ] || export SCHOONLEECH_ROUNDS=${SCHOONLEECH_ROUNDS:-1/4}
 $emulator "$work/tests" >"$work/out" 2>&1
 status=$?
 sed '$d' "$work/out"

@@ -9,9 +9,7 @@
 . tests/host/library.bash
 . tests/faults/planting.bash
 
-[ -n "${SCHOONLEECH_LIB:-}" ] || one "the library is proved" prove_library
-[ -n "${SCHOONLEECH_BOARD_LIB:-}" ] || { rt_or_skip; one "the board's library is proved" prove_board_library; }
-[ "$failed" -eq 0 ] || finish
+prove_both
 
 top=$PWD
 mkdir "$work/engine" "$work/simulator"
@@ -41,7 +39,7 @@ about() { # FILE
 
 # A fault may make a test go on for ever, and one that is found takes seconds. The copy without a fault goes through all tests.
 seconds_planted=100 seconds_unchanged=1000
-[ -z "$emulator" ] || seconds_planted=1000 seconds_unchanged=10000
+[ -z "$emulator" ] || seconds_planted=1000
 
 # Links the tests with the given objects and runs them to the first one that fails.
 run_tests() { # SECONDS PROGRAM WORDS OBJECT..

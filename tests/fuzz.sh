@@ -26,9 +26,7 @@ links_a_target() {
 links_a_target || install_packages clang libclang-rt-dev
 links_a_target || { echo "there is no clang with libFuzzer here and it can't be installed"; exit 77; }
 
-[ -n "${SCHOONLEECH_LIB:-}" ] || one "the library is proved" prove_library
-[ -n "${SCHOONLEECH_BOARD_LIB:-}" ] || { rt_or_skip; one "the board's library is proved" prove_board_library; }
-[ "$failed" -eq 0 ] || finish
+prove_both
 
 top=$PWD
 mkdir "$work/simulator" "$work/target" "$work/seeds"

@@ -4,6 +4,7 @@
        code NUMBER        the key with that code
        screen FILE        waits until the screen shows exactly the lines of the file, with its stars and their values in reverse video
        line TEXT          waits until a row has the text in it
+       row NUMBER TEXT    waits until that row, counted from 1, is exactly the text
        taken              the terminal gives single keys without echo, on the alternate screen, with no cursor
        still              what is being written ends, and nothing more comes for a while
        resize ACROSS DOWN changes the columns and rows
@@ -145,6 +146,15 @@ static bool shows_line(const char *text)
     return false;
 }
 
+static bool shows_row(const char *wanted)
+{
+    const unsigned row = (unsigned)atoi(wanted);
+    const char *text = strchr(wanted, ' ');
+    char room[COLUMNS_MOST + 1];
+
+    return row >= 1 && row <= screen.rows && strcmp(row_of(&screen, row - 1, room), text == NULL ? "" : text + 1) == 0;
+}
+
 static bool is_taken(const char *nothing)
 {
     struct termios settings;
@@ -218,8 +228,10 @@ static void follow(const char *name, const char *argument)
     static const struct {
         const char *name;
         bool (*is_true)(const char *);
-    } commands[] = {{"type", type}, {"code", code}, {"screen", shows_file}, {"line", shows_line}, {"taken", is_taken},
-                    {"still", is_still}, {"resize", resize}, {"erased", has_erased}, {"signal", send_signal}, {"ended", has_ended}};
+    } commands[] = {
+        {"type", type}, {"code", code}, {"screen", shows_file}, {"line", shows_line}, {"row", shows_row}, {"taken", is_taken},
+        {"still", is_still}, {"resize", resize}, {"erased", has_erased}, {"signal", send_signal}, {"ended", has_ended},
+    };
     const time_t began = time(NULL);
     size_t k = 0;
 

@@ -112,9 +112,15 @@ void stop_at_failure(void)
 
 uint64_t rounds(uint64_t number)
 {
-    const char *times = getenv("SCHOONLEECH_ROUNDS");
+    const char *told = getenv("SCHOONLEECH_ROUNDS");
+    uint64_t times, part;
+    char *rest;
 
-    return times != NULL && *times != '\0' ? number * strtoull(times, NULL, 10) : number;
+    if (told == NULL || *told == '\0')
+        return number;
+    times = strtoull(told, &rest, 10);
+    part = *rest == '/' ? strtoull(rest + 1, NULL, 10) : 1;
+    return number * times / (part > 0 ? part : 1);
 }
 
 uint64_t dice_next(struct dice *dice)

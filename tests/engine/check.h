@@ -31,7 +31,7 @@ bool holds_so_far(void);
 void stand_at(uint64_t seed, uint64_t number);
 void stand_at_row(size_t row);
 
-/* The number times SCHOONLEECH_ROUNDS, which is 1 unless it is set. */
+/* The number times SCHOONLEECH_ROUNDS, which is 1 unless it is set, and may be a fraction such as 1/4. */
 uint64_t rounds(uint64_t number);
 
 /* Drawn numbers: splitmix64, from a seed and a case's number, so that a case does not depend on those before it. */

@@ -124,7 +124,7 @@ uint64_t times_seen(size_t number)
 
 void expect_compared(uint64_t compared, uint64_t least, const char *what)
 {
-    expect(compared >= least || !holds_so_far(), "only %llu %s were compared", (unsigned long long)compared, what);
+    expect(compared >= rounds(least) || !holds_so_far(), "only %llu %s were compared", (unsigned long long)compared, what);
     remark(" (%llu %s)", (unsigned long long)compared, what);
 }
 

@@ -53,7 +53,7 @@ void expect_seen(size_t lowest, size_t highest);
 /* How many cases were answered with that number. */
 uint64_t times_seen(size_t number);
 
-/* Expects that at least so much was compared, and says how much in the test's line. */
+/* Expects that at least so much was compared, by as many rounds as there are, and says how much in the test's line. */
 void expect_compared(uint64_t compared, uint64_t least, const char *what);
 
 /* One step of the second simulator on one's own places; it is noted. */

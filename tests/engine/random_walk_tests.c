@@ -238,7 +238,7 @@ static void runs_of_accepted_stores(void)
     stores = compare_drawn(65, 20000, draw_store, accepted_case);
     if (!holds_so_far())
         return;
-    expect(stores > 5000, "only %llu stores were accepted", (unsigned long long)stores);
+    expect(stores > rounds(5000), "only %llu stores were accepted", (unsigned long long)stores);
     expect(bounds_met[false] > stores / 10, "only %llu bounds up to 32 were met", (unsigned long long)bounds_met[false]);
     expect(bounds_met[true] > stores / 100, "only %llu bounds above 32 were met", (unsigned long long)bounds_met[true]);
     remark(" (%llu stores, of %llu the bound met)", (unsigned long long)stores,

@@ -57,4 +57,11 @@ prove_board_library() {
     [ -n "${SCHOONLEECH_BOARD_LIB:-}" ] || { rt_or_skip && alone prove_if_stale board "$board_library"; }
 }
 
+# Both, each as a test of a script that counts (counting.bash), which ends where one fails.
+prove_both() {
+    [ -n "${SCHOONLEECH_LIB:-}" ] || one "the library is proved" prove_library
+    [ -n "${SCHOONLEECH_BOARD_LIB:-}" ] || { rt_or_skip; one "the board's library is proved" prove_board_library; }
+    [ "$failed" -eq 0 ] || finish
+}
+
 [ -n "${SCHOONLEECH_LIB:-}" ] || rt_or_skip

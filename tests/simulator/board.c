@@ -49,7 +49,7 @@ static avm_board board_showing(const struct machine *machine)
     return board;
 }
 
-/* The phases work on a copy, and the fourth stores nothing where it is not done: a refused microcycle leaves board and memory as lent. */
+/* A microcycle that is not done has stored nothing, and the board is written only after one that is: refused, all is as lent. */
 avm_answer sim_board_microcycle(avm_board *board, const uint64_t *program, size_t words, uint32_t *memory, size_t m, uint8_t request)
 {
     struct store store = {program, words, memory, m};
@@ -58,10 +58,7 @@ avm_answer sim_board_microcycle(avm_board *board, const uint64_t *program, size_
 
     if (answer.number != AVM_DONE)
         return answer;
-    phase_one(&machine, &store, interrupt_line(request));
-    phase_two(&machine);
-    phase_three(&machine);
-    if (!phase_four(&machine, &store))
+    if (!microcycle(&machine, &store, interrupt_line(request)))
         return numbered(AVM_LEFT_PROGRAM, 0);
     *board = board_showing(&machine);
     answer.microcycles.count = 1;

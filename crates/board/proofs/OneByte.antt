@@ -2,7 +2,6 @@
 use Prim.Native.Nat.{ℕ}
 use mathlib.Core.Path.{_≡_}
 use mathlib.Core.List.{List, [], _∷_}
-use Rattle.answers.specs.declared.Microcycles.{Microcycles}
 use Rattle.lending.specs.declared.Answer.{Answer}
 use Rattle.lending.specs.Answers.{answered}
 use Rattle.runs.specs.declared.MicroState.{MicroState}

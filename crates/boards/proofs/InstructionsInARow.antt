@@ -1,5 +1,6 @@
--- The same of instructions: where each call is done, the calls together are one run of the macro level over all their request bytes. The
--- board, memory and the count come out alike. So much for a PSW of six bits, which every done call leaves.
+-- A display advances its board by instructions, call by call. Where each call is done, the calls together are one run of the macro level
+-- over all their request bytes: the board, memory and the count come out alike. The PSW has six bits at the start, as every done call leaves
+-- it: with no byte at all there is no call to drop its other bits, where a run drops them.
 use Prim.Native.Nat.{ℕ, suc, _+_, _<_}
 use native.Mathlib.Nat.{mod-eq-of-lt, le-refl}
 use native.Mathlib.Omega.{arith}

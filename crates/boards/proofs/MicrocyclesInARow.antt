@@ -1,8 +1,9 @@
--- A display advances its board call by call. Where each call is done, the calls together are one run over all their request bytes: the
--- board, memory and both counts come out alike. So much for a PSW of six bits, which every done call leaves.
+-- A display advances its board by microcycles, call by call. Where each call is done, the calls together are one run over all their request
+-- bytes: the board, memory and both counts come out alike, and by its count that run is done. The PSW has six bits at the start, as every
+-- done call leaves it: with no byte at all there is no call to drop its other bits, where a run drops them.
 use Prim.Native.Nat.{ℕ, suc, _+_, _<_}
 use native.Mathlib.Omega.{arith}
-use mathlib.Core.Path.{_≡_, refl, sym, ap, subst, _∙_}
+use mathlib.Core.Path.{_≡_, refl, sym, ap, _∙_}
 use mathlib.Core.Bool.{Bool, true, false, cond, false≢true}
 use mathlib.Core.List.{List, [], _∷_}
 use lib.Dec.{eqb}
@@ -10,7 +11,7 @@ use lib.ListN.{length}
 use Rattle.answers.specs.Ends.{is-done}
 use Rattle.answers.specs.Places.{first-place}
 use Rattle.runs.specs.declared.MicroState.{MicroState}
-use Rattle.runs.specs.Machine.{taken, given}
+use Rattle.runs.specs.Machine.{taken}
 use Rattle.runs.specs.Run.{MicroCalled, bad-request, micro-test, run-on, answered, micro-refused, run}
 use Rattle.runs.proofs.RunKeeps.{call-six-bits}
 use Rattle.runs.proofs.RunTests.{fine}
