@@ -141,7 +141,7 @@ void print_help(FILE *out)
     fputs("\n"
           "Status  0 ended by q, or by the end of the input\n"
           "        2 the command line is not understood\n"
-          "        3 a file can't be read or is not of its form\n"
+          "        3 a file can't be read or is not of its form, or standard input can't be read\n"
           "        4 the microprogram is refused (numbers 4, 5, 17, 18)\n"
           "        5 the output can't be written\n"
           "\n"

@@ -392,6 +392,23 @@ file circle.microprogram "742D800000\n742D800041 # to itself\n"
 circle="--unchecked circle.microprogram light.hex"
 one "f gives up after 64 microcycles" says "not at fetch after 64 microcycles" "" f $circle
 
+one "a key of code 0" says "no such key: code 0" "? shows the keys" '\000' $light
+
+# Three words for each store: MBR gets PC, MAR gets PC, and then MBR is stored and PC goes on. So f changes as many words as there are stores.
+stores() { # COUNT
+    local k
+    for ((k = 1; k < $1; k++)); do printf '74AD800000\n752D800000\n642D000200\n'; done
+    printf '74AD800000\n752D800000\n642D000240\n'
+}
+changed_is() { # COUNT WORDS
+    stores "$1" >"$files/stores.microprogram"
+    last_frame f --words 32 --pc 5 stores.microprogram light.hex && diff <(echo "changed in memory  $2") <(sed -n 10p "$work/frame")
+}
+four="5 *00000005  6 *00000006  7 *00000007  8 *00000008"
+one "two words that change are shown" changed_is 2 "5 *00000005  6 *00000006"
+one ".. and four" changed_is 4 "$four"
+one ".. and of five the first four, and that there are more" changed_is 5 "$four  .."
+
 help_frame() {
     last_frame "m?" $light && cp "$work/frame" "$work/help" && last_frame "m??" $light && cp "$work/frame" "$work/back" &&
         last_frame m $light && cmp "$work/back" "$work/frame" && last_frame "m?m" $light && ! cmp -s "$work/help" "$work/frame" || return 1
@@ -538,6 +555,15 @@ output_lost() { # ARGUMENT..
 one "frames that can't be written" output_lost $light
 one "help that can't be written" output_lost --help
 
+# Input that can't be read, after the frame of the start.
+
+input_lost() {
+    last_frame "" $light || return 1
+    (cd "$files" && $emulator "$work/plain" $light </) >"$work/out" 2>"$work/complaints"
+    [ $? -eq 3 ] && cmp "$work/frame" "$work/out" && grep -qx "display: standard input can't be read" "$work/complaints"
+}
+one "keys that can't be read" input_lost
+
 # The first run, and where it is shown.
 
 command=$(sed -n 's/^    \$ //p' display/README.md)
@@ -618,7 +644,7 @@ taken
 type q
 ended 0
 END
-follows "space runs and pauses, + makes it faster, m and f pause too" $light <<'END'
+follows "space runs and pauses, + makes it faster, m, i and f pause too, and help stops it for a while" $light <<'END'
 taken
 line paused, 4 microcycles a second
 code 32
@@ -632,12 +658,22 @@ line paused, 64 microcycles a second
 still
 code 32
 line running
+type ?
+line these keys, or back
+still
+type ?
+line running
 type m
 line paused
 still
 code 32
 line running
 type f
+line paused
+still
+code 32
+line running
+type i
 line paused
 still
 type q

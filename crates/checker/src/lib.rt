@@ -170,7 +170,7 @@ fn refusal(end: End) -> Checked
 pub fn check(program: &[u64]) -> Checked
     ensures { λ r. ⌜ Meant (now (program .entry)) r ⌝ }
 {
-    let test = microwords::store::tested(program);
+    let test = control_store::tested(program);
     if !answers::done(test) {
         return refusal(test);
     }

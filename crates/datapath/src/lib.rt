@@ -1,4 +1,3 @@
-// What a microword makes the datapath do: what the ALU and the shifter give, and where the result goes.
-// Every function is total; specs/ says what each answers.
-pub mod operation;
+// Where a microword makes a result go. Every function is total; specs/ says what each answers, and what
+// the ALU and the shifter give, which the crate operation does.
 pub mod results;

@@ -1,59 +1,11 @@
-// Where the result goes: the PSW, the registers, the system registers and memory after a microcycle.
+// Where the result goes: the registers, the system registers and memory after a microcycle.
 ghost use mathlib.Core.Path.{_≡_};
-ghost use Rattle.datapath.specs.Results.{psw-lines, quiet, target-register, written-register};
-ghost use Rattle.datapath.specs.Results.{new-psw, new-reg, new-pc, new-mbr, new-system, new-store};
-use alu::AluOutput;
-use alu::Flags;
+ghost use Rattle.datapath.specs.Results.{target-register, written-register};
+ghost use Rattle.datapath.specs.Results.{new-reg, new-pc, new-mbr, new-system, new-store};
 use blocks::choice::choose;
 use blocks::memory::Store;
 use microwords::microword::Microword;
-use status::psw::Change;
 use status::psw::Psw;
-use status::psw::PswLines;
-
-// The lines into the PSW that a microword drives; the clock line is high in phase four.
-fn lines(word: Microword, flags: Flags) -> PswLines
-    ensures { λ r. ⌜ r ≡ psw-lines word flags ⌝ }
-{
-    PswLines {
-        set: word.trgt == 2,
-        clock: true,
-        sm: Change {
-            set: word.ssm,
-            clear: word.csm,
-        },
-        ie: Change {
-            set: word.sie,
-            clear: word.cie,
-        },
-        load: Flags {
-            v: word.ldv,
-            n: word.ldn,
-            c: word.ldc,
-            z: word.ldz,
-        },
-        flags: flags,
-    }
-}
-
-// No line into the PSW is high but its clock's: most microwords.
-fn quiet(word: Microword) -> bool
-    ensures { λ r. ⌜ r ≡ quiet word ⌝ }
-{
-    let single = word.ssm | word.csm | word.sie | word.cie;
-    let flags = word.ldv | word.ldn | word.ldc | word.ldz;
-    !((word.trgt == 2) | single | flags)
-}
-
-// The PSW stays where no line asks for a change, which is looked at first since it is quick.
-pub fn psw(word: Microword, out: AluOutput, psw: Psw) -> Psw
-    ensures { λ r. ⌜ r ≡ new-psw word out psw ⌝ }
-{
-    if quiet(word) {
-        return psw;
-    }
-    status::psw::next(lines(word, out.flags), out.value, psw)
-}
 
 // The register that a target names; register 0, which is never written, where it names none.
 fn target_register(trgt: u32, dest: u32) -> u32

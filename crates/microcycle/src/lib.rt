@@ -7,11 +7,11 @@ ghost use Rattle.microcycle.specs.Performing.{next-of, performed};
 use blocks::choice::choose;
 use blocks::memory::Store;
 use blocks::sources;
-use datapath::operation::operate;
 use datapath::results;
 use datapath::results::SystemRegisters;
 use microwords::microword::fields;
 use microwords::sequencer;
+use operation::operate;
 use status::psw::Psw;
 use words::instruction::decode;
 
@@ -97,7 +97,7 @@ pub fn perform(memory: &[u32], word: u64, core: Core, read: Read, next: u32) -> 
     let system = results::system(memory, m, dest, psw, result, old);
     let register = results::written_register(m.trgt, psw.sm, dest);
     let store = results::store(m, mar, core.mbr);
-    let next_psw = results::psw(m, out, psw);
+    let next_psw = operation::psw(m, out, psw);
     let after = Core {
         psw: next_psw,
         pc: system.pc,

@@ -1,5 +1,4 @@
-// What a microword says: its 24 fields, which words are legal, where the sequencer goes, and the test
-// of a lent control store. Every function is total; specs/ says what each answers.
+// What a microword says: its 24 fields, which words are legal, and where the sequencer goes. Every
+// function is total; specs/ says what each answers, and what a control store is.
 pub mod microword;
 pub mod sequencer;
-pub mod store;

@@ -94,7 +94,7 @@ fn phase_done(program: &[u64], memory: &[u32], s: PhaseMachine, request: u8) -> 
         0 => phases::one(program, s, request),
         1 => phases::two(s),
         2 => phases::three(s),
-        _ => phases::four(memory, s),
+        _ => phase_four::four(memory, s),
     }
 }
 
@@ -104,7 +104,7 @@ fn stores(s: PhaseMachine) -> Store
 {
     let number = s.phase;
     if number == 3 {
-        phases::store(s)
+        phase_four::store(s)
     } else {
         Store::Nothing
     }
@@ -115,7 +115,7 @@ fn leaves(words: usize, s: PhaseMachine) -> bool
     ensures { λ r. ⌜ r ≡ leaves words s ⌝ }
 {
     let last = s.phase == 3;
-    let next = phases::next_address(s) as usize;
+    let next = phase_four::next_address(s) as usize;
     last & (words <= next)
 }
 

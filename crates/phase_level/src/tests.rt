@@ -11,5 +11,5 @@ pub fn machine(words: usize, zero: u32, program: &[u64]) -> End
     if !answers::done(lent) {
         return lent;
     }
-    microwords::store::tested(program)
+    control_store::tested(program)
 }

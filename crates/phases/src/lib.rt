@@ -1,15 +1,11 @@
-// The four phases (from p. 110). Every function is total; specs/ says what each answers.
+// The first three of the four phases (from p. 110); phase_four has the last. Every function is total;
+// specs/ says what each answers.
 ghost use mathlib.Core.Path.{_≡_};
-ghost use Rattle.phases.specs.Phases.{phase-one, phase-two, phase-three, phase-four, next-mpc, phase-store};
+ghost use Rattle.phases.specs.Phases.{phase-one, phase-two, phase-three};
 use blocks::choice::choose;
-use blocks::memory::Store;
 use blocks::sources;
-use datapath::operation::operate;
-use datapath::results;
-use datapath::results::SystemRegisters;
+use control_store::word_at;
 use microwords::microword::fields;
-use microwords::sequencer;
-use microwords::store::word_at;
 use status::psw::Psw;
 use words::instruction::decode;
 
@@ -80,72 +76,4 @@ pub fn three(s: PhaseMachine) -> PhaseMachine
     next.mar = mar;
     next.phase = 3;
     next
-}
-
-// Where phase four goes next, from the latched request and the old PSW.
-pub fn next_address(s: PhaseMachine) -> u32
-    ensures { λ r. ⌜ r ≡ next-mpc s ⌝ }
-{
-    let word = fields(s.mir);
-    let instruction = decode(s.ir);
-    let psw = s.psw;
-    sequencer::next_address(
-        s.mpc,
-        instruction.opcode,
-        word.addr,
-        word.cond,
-        s.ireq,
-        psw.ie,
-        psw.sm,
-    )
-}
-
-// What phase four stores.
-pub fn store(s: PhaseMachine) -> Store
-    ensures { λ r. ⌜ r ≡ phase-store s ⌝ }
-{
-    let word = fields(s.mir);
-    results::store(word, s.mar, s.mbr)
-}
-
-// The result goes to its target. Memory is read here and written by nobody: `store` says what is
-// stored.
-pub fn four(memory: &[u32], s: PhaseMachine) -> PhaseMachine
-    ensures { λ r. ⌜ r ≡ phase-four (now (memory .entry)) s ⌝ }
-{
-    let file = s.registers;
-    let psw = s.psw;
-    let sm = psw.sm;
-    let old = SystemRegisters {
-        pc: s.pc,
-        ir: s.ir,
-        mar: s.mar,
-        mbr: s.mbr,
-    };
-    let word = fields(s.mir);
-    let trgt = word.trgt;
-    let instruction = decode(s.ir);
-    let dest = instruction.dest;
-    let out = operate(word, s.mbr, s.alatch, s.blatch, psw.c);
-    let result = out.value;
-    let next_mpc = next_address(s);
-    let next_system = results::system(memory, word, dest, psw, result, old);
-    let next_psw = results::psw(word, out, psw);
-    let next_file = results::registers(trgt, sm, dest, file, result);
-    PhaseMachine {
-        registers: next_file,
-        psw: next_psw,
-        pc: next_system.pc,
-        ivec: s.ivec,
-        ir: next_system.ir,
-        mar: next_system.mar,
-        mbr: next_system.mbr,
-        mpc: next_mpc,
-        alatch: s.alatch,
-        blatch: s.blatch,
-        ireq: s.ireq,
-        iack: s.iack,
-        mir: s.mir,
-        phase: 0,
-    }
 }

@@ -1,0 +1,48 @@
+// A lent control store: the word at an address, and the test of all. Every function is total;
+// microwords says what each answers.
+ghost use mathlib.Core.Path.{_≡_};
+ghost use Rattle.answers.specs.Places.{first-place};
+ghost use Rattle.microwords.specs.ControlStore.{word-at, illegal, store-test};
+use answers::End;
+use microwords::microword::legal;
+
+// The most words that a 6-bit counter can name.
+pub const MOST_MICROWORDS: usize = 64;
+
+// The microword at an address.
+pub fn word_at(program: &[u64], mpc: u32) -> u64
+    ensures { λ r. ⌜ r ≡ word-at (now (program .entry)) mpc ⌝ }
+{
+    let at = mpc as usize;
+    if at < program.len() { program[at] } else { 0 }
+}
+
+// The lowest word that is not legal; the length where all are.
+fn lowest_illegal(program: &[u64]) -> usize
+    ensures { λ r. ⌜ r ≡ first-place illegal (now (program .entry)) ⌝ }
+{
+    let mut at: usize = 0;
+    while at < program.len() {
+        if !legal(program[at]) {
+            return at;
+        }
+        at += 1;
+    }
+    at
+}
+
+// Its length first, then its words.
+pub fn tested(program: &[u64]) -> End
+    ensures { λ r. ⌜ r ≡ store-test (now (program .entry)) ⌝ }
+{
+    let words = program.len();
+    let fits = (0 < words) & (words <= MOST_MICROWORDS);
+    if !fits {
+        return End::ProgramLength;
+    }
+    let word = lowest_illegal(program);
+    if word < words {
+        return End::Microword(word);
+    }
+    End::Done
+}
