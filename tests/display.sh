@@ -394,7 +394,8 @@ one "f gives up after 64 microcycles" says "not at fetch after 64 microcycles" "
 
 one "a key of code 0" says "no such key: code 0" "? shows the keys" '\000' $light
 
-# Three words for each store: MBR gets PC, MAR gets PC, and then MBR is stored and PC goes on. So f changes as many words as there are stores.
+# Three words for each store: MBR gets PC, MAR gets PC, and then MBR is stored and PC goes on. So f changes as many words as there are
+# stores.
 stores() { # COUNT
     local k
     for ((k = 1; k < $1; k++)); do printf '74AD800000\n752D800000\n642D000200\n'; done
