@@ -5,3 +5,4 @@ pub mod SignedWords
 pub mod OverflowBySigns
 pub mod TrueResults
 pub mod Outputs
+pub mod AddedZero

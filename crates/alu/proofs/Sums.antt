@@ -26,6 +26,11 @@ pub added-back : (a b : ℕ) (borrow : Bool) → a < 2 ^ 32 → b < 2 ^ 32 → (
 unfolding difference sum wordn bnot
 added-back a b borrow ha hb = omega (arith, num-not borrow)
 
+-- one added, one taken off
+pub off-again : (a : ℕ) → a < 2 ^ 32 → difference (sum a 1 false) 1 false ≡ a
+unfolding difference sum wordn bnot
+off-again a ha = omega arith
+
 -- in two steps, as the code takes them
 pub sum-is : (a b p r : ℕ) (carry : Bool) → p ≡ (a + b) % 2 ^ 32 → r ≡ (p + num carry) % 2 ^ 32 → r ≡ sum a b carry
 unfolding sum wordn

@@ -5,7 +5,7 @@ use mathlib.Core.Path.{_≡_, refl}
 use mathlib.Core.List.{List, [], _∷_}
 use native.Mathlib.Omega.{arith}
 use lib.ListN.{length, length-set}
-use lib.Seq.{getD-set-same}
+use lib.Seq.{getD-set-same, getD-set-other}
 use Rattle.blocks.specs.declared.memory.Store.{Store}
 use Rattle.blocks.specs.declared.memory.Store.the-variants.{Nothing, Word}
 use Rattle.blocks.specs.Memory.{address, fetch, store, applied}
@@ -26,6 +26,13 @@ unfolding store
 length-kept Nothing mem = refl
 length-kept (Word a word) mem = length-set mem (address mem a) word
 
-pub read-back : (mem : List ℕ) (a word : ℕ) → 0 < length mem → fetch (store mem a word) a ≡ word
+pub read-alike : (mem : List ℕ) (a b word : ℕ) → 0 < length mem → address mem b ≡ address mem a → fetch (store mem a word) b ≡ word
 unfolding fetch store
-read-back mem a word some = rw length-set (getD-set-same mem (address mem a) word 0 (mod-lt a some))
+read-alike mem a b word some same = rw (length-set, same) (getD-set-same mem (address mem a) word 0 (mod-lt a some))
+
+pub read-back : (mem : List ℕ) (a word : ℕ) → 0 < length mem → fetch (store mem a word) a ≡ word
+read-back mem a word some = read-alike mem a a word some refl
+
+pub kept-elsewhere : (mem : List ℕ) (a b word : ℕ) → (address mem b ≡ address mem a → ⊥) → fetch (store mem a word) b ≡ fetch mem b
+unfolding fetch store
+kept-elsewhere mem a b word apart = rw length-set (getD-set-other mem (address mem a) (address mem b) word 0 apart)

@@ -3,39 +3,16 @@
 ghost use mathlib.Core.Path.{_≡_};
 ghost use Rattle.words.specs.Shifter.{shifter};
 ghost use Rattle.alu.specs.Alu.{alu};
-ghost use Rattle.instructions.specs.Effects.{add, dec, goes, put, mode};
-ghost use Rattle.instructions.specs.Instructions.{jmp, call, interrupted, rti, rtn, gpsw, ppsw, ld, st, shift, arithmetic, logic, noop, computation, effect};
+ghost use Rattle.steps.specs.Effects.{add, dec, goes, put, mode};
+ghost use Rattle.steps.specs.Instructions.{jmp, call, interrupted, rti, rtn, gpsw, ppsw, ld, st, shift, arithmetic, logic, noop, computation, effect};
 use blocks::choice::choose;
 use blocks::memory::Store;
 use blocks::memory::load;
 use status::psw::Psw;
 use std::num::wrapping_add_u32;
 use std::num::wrapping_sub_u32;
-
-// What an instruction reads: the three registers that its word names, SSP, its immediate, the number
-// of its destination, PSW, PC and the interrupt vector.
-pub struct Operands {
-    pub a: u32,
-    pub b: u32,
-    pub d: u32,
-    pub ssp: u32,
-    pub imm: u32,
-    pub dest: u32,
-    pub psw: Psw,
-    pub pc: u32,
-    pub ivec: u32,
-}
-
-// What it does: one register at most, written under the register rule with `sm`; register 0 stands
-// for none.
-pub struct Effect {
-    pub sm: bool,
-    pub register: u32,
-    pub value: u32,
-    pub psw: Psw,
-    pub pc: u32,
-    pub store: Store,
-}
+use steps::Effect;
+use steps::Operands;
 
 // The sum of two words.
 fn add(a: u32, b: u32) -> u32

@@ -4,11 +4,11 @@ ghost use Rattle.steps.specs.Step.{operands, selected, performed, step};
 use blocks::choice::choose;
 use blocks::memory::apply;
 use blocks::memory::load;
-use instructions::Effect;
-use instructions::Operands;
 use instructions::perform;
 use status::psw::Psw;
+use steps::Effect;
 use steps::MacroMachine;
+use steps::Operands;
 use words::instruction::decode;
 use words::registers::update;
 

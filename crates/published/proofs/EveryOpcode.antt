@@ -29,8 +29,8 @@ use Rattle.phases.specs.Phases.{interrupt}
 use Rattle.microcycle.specs.declared.MicroMachine.{MicroMachine}
 use Rattle.microcycle.specs.Microcycle.{microcycle, micro-store, next-address}
 use Rattle.runs.specs.Run.{at-fetch}
-use Rattle.instructions.specs.Effects.{inc}
-use Rattle.instructions.specs.Instructions.{jmp, call, interrupted, rti, rtn, gpsw, ppsw, ld, st, shift, arithmetic, logic, noop, computation, effect, eint-key}
+use Rattle.steps.specs.Effects.{inc}
+use Rattle.steps.specs.Instructions.{jmp, call, interrupted, rti, rtn, gpsw, ppsw, ld, st, shift, arithmetic, logic, noop, computation, effect, eint-key}
 use Rattle.steps.specs.declared.MacroMachine.{MacroMachine}
 use Rattle.steps.specs.Step.{Macro, operands, selected, performed, step}
 use Rattle.published.specs.Assembler.{packed}

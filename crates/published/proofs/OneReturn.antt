@@ -16,7 +16,7 @@ use Rattle.phases.specs.Phases.{interrupt}
 use Rattle.microcycle.specs.declared.MicroMachine.{MicroMachine}
 use Rattle.runs.specs.Run.{RanOn, at-fetch, run-on}
 use Rattle.steps.specs.Step.{Macro, step}
-use Rattle.instructions.specs.Instructions.{eint-key}
+use Rattle.steps.specs.Instructions.{eint-key}
 use Rattle.published.specs.Listing.{published}
 use Rattle.published.specs.Clocks.{macro-machine, shows, key, own-cycles, cycles}
 use Rattle.published.proofs.NeverRefused.{on, from-here, never-refused}

@@ -13,7 +13,7 @@ use Rattle.microcycle.specs.declared.MicroMachine.{MicroMachine}
 use Rattle.microcycle.specs.Microcycle.{microcycle, micro-store}
 use Rattle.runs.specs.declared.MicroState.{MicroState}
 use Rattle.runs.specs.Run.{at-fetch}
-use Rattle.instructions.specs.Instructions.{eint-key}
+use Rattle.steps.specs.Instructions.{eint-key}
 use Rattle.steps.specs.declared.MacroState.{MacroState}
 use Rattle.steps.specs.declared.MacroMachine.{MacroMachine}
 use Rattle.steps.specs.Step.{Macro, selected}

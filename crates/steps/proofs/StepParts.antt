@@ -5,9 +5,9 @@ use mathlib.Core.Bool.{Bool}
 use mathlib.Core.List.{List}
 use Rattle.words.specs.Registers.{update-reg}
 use Rattle.blocks.specs.Memory.{fetch, applied}
-use Rattle.instructions.specs.declared.Operands.{Operands}
-use Rattle.instructions.specs.declared.Effect.{Effect}
-use Rattle.instructions.specs.Instructions.{effect}
+use Rattle.steps.specs.declared.Operands.{Operands}
+use Rattle.steps.specs.declared.Effect.{Effect}
+use Rattle.steps.specs.Instructions.{effect}
 use Rattle.steps.specs.declared.MacroMachine.{MacroMachine}
 use Rattle.steps.specs.Step.{operands, selected, performed, step}
 

@@ -1,5 +1,5 @@
--- One step: the interrupt step if the request is up and ie is set, else the instruction at PC (section 5.2.6, pp. 130-137). Both the request
--- and ie are looked at once, before anything changes. Assumes nothing.
+-- One step: the interrupt step if the request is up and ie is set, else the instruction at PC (section 5.2.6, pp. 130-137). Both the
+-- request and ie are looked at once, before anything changes. Assumes nothing.
 use Prim.Native.Nat.{ℕ}
 use mathlib.Core.Bool.{Bool, cond, _&&_}
 use mathlib.Core.List.{List}
@@ -7,9 +7,9 @@ use Rattle.words.specs.Fields.{opcode, dest, srca, srcb, imm}
 use Rattle.words.specs.Registers.{register, ssp-reg, update-reg}
 use Rattle.status.specs.declared.psw.Psw.{Psw}
 use Rattle.blocks.specs.Memory.{fetch, applied}
-use Rattle.instructions.specs.declared.Operands.{Operands}
-use Rattle.instructions.specs.declared.Effect.{Effect}
-use Rattle.instructions.specs.Instructions.{effect, eint-key}
+use Rattle.steps.specs.declared.Operands.{Operands}
+use Rattle.steps.specs.declared.Effect.{Effect}
+use Rattle.steps.specs.Instructions.{effect, eint-key}
 use Rattle.steps.specs.declared.MacroMachine.{MacroMachine}
 
 -- what the instruction word names: `GetSrcA`, `GetSrcB`, `GetDest`, `GetImm` (pp. 130-136) and the registers there
@@ -46,8 +46,12 @@ pub record Macro : Type 0 where
   pub machine : MacroMachine
   pub memory : List ℕ
 
-unfoldable pub step : List ℕ → MacroMachine → Bool → Macro
-step mem m int =
-    let w = fetch mem (m .pc) in
+-- a step on an instruction word, wherever that stands
+abbrev pub step-on : ℕ → List ℕ → MacroMachine → Bool → Macro
+step-on w mem m int =
     let e = effect (selected int (m .psw) w) mem (operands w m) in
     record { machine = performed e m; memory = applied (e .store) mem }
+
+-- a step, on the word at PC
+unfoldable pub step : List ℕ → MacroMachine → Bool → Macro
+step mem m int = step-on (fetch mem (m .pc)) mem m int

@@ -10,6 +10,7 @@ use lib.Dec.{eqb, eqb·zero-suc, eqb·suc-zero, eqb·suc-suc}
 use lib.Bits.{bitOr, or-shr, or-mod, or-lt}
 use lib.Count.{ones, ones-step, under, trailingZeros}
 use lib.Pow.{pow-pos, pow-lt}
+use Rattle.words.proofs.BitByBit.{digit, or-digits}
 use Rattle.walks.specs.Survey.{alone, opcode-words, union, in-lowest}
 
 -- the address `a` is in the set
@@ -17,24 +18,9 @@ abbrev pub has : ℕ → ℕ → Bool
 has set zero = in-lowest set
 has set (suc a) = has (set / 2) a
 
--- a digit is 0 or 1
-digit : (n : ℕ) → (n % 2 ≡ 0) ⊎ (n % 2 ≡ 1)
-digit n = by-size (n % 2) (mod-lt n (pow-pos 1))
-  where
-    by-size : (d : ℕ) → d < 2 → (d ≡ 0) ⊎ (d ≡ 1)
-    by-size zero h = inl refl
-    by-size (suc zero) h = inr refl
-    by-size (suc (suc d)) h = absurd (omega arith)
-
 pub has-union : (x y a : ℕ) → has (union x y) a ≡ (has x a || has y a)
 unfolding union
-has-union x y zero = ap (λ (d : ℕ). eqb d 1) (or-mod x y 1) ∙ by-digits (digit x) (digit y)
-  where
-    by-digits : (x % 2 ≡ 0) ⊎ (x % 2 ≡ 1) → (y % 2 ≡ 0) ⊎ (y % 2 ≡ 1) → eqb (bitOr (x % 2) (y % 2)) 1 ≡ (in-lowest x || in-lowest y)
-    by-digits (inl e) (inl f) = rw (e, f)
-    by-digits (inl e) (inr f) = rw (e, f)
-    by-digits (inr e) (inl f) = rw (e, f)
-    by-digits (inr e) (inr f) = rw (e, f)
+has-union x y zero = ap (λ (d : ℕ). eqb d 1) (or-mod x y 1) ∙ or-digits x y
 has-union x y (suc a) = ap (λ (set : ℕ). has set a) (or-shr x y 1) ∙ has-union (x / 2) (y / 2) a
 
 pub has-none : (a : ℕ) → has 0 a ≡ false

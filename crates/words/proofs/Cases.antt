@@ -42,6 +42,10 @@ pub or-right : (x : Bool) → (x || true) ≡ true
 or-right true = refl
 or-right false = refl
 
+pub and-right : (x : Bool) → (x && false) ≡ false
+and-right true = refl
+and-right false = refl
+
 pub both-of : (x y : Bool) → (x && y) ≡ true → (x ≡ true) × (y ≡ true)
 both-of true y t = (refl, t)
 both-of false y t = absurd (false≢true t)

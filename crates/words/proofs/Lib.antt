@@ -5,3 +5,5 @@ pub mod FlagNumbers
 pub mod RegisterRule
 pub mod PowersOfTwo
 pub mod NoSecondAnswer
+pub mod BitByBit
+pub mod WordLists

@@ -1,6 +1,6 @@
 -- The ALU gives the value and the flags.
 use borrow.Author.Needs.{needs}
-use Rattle.instructions.specs.Instructions.{arithmetic}
+use Rattle.steps.specs.Instructions.{arithmetic}
 use Rattle.instructions.proofs.arithmetic.Statement.{statement}
 use Rattle.instructions.proofs.arithmetic.Tie as tie
 

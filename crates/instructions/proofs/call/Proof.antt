@@ -1,6 +1,6 @@
 -- Each value is what its call ensures.
 use borrow.Author.Needs.{needs}
-use Rattle.instructions.specs.Instructions.{call}
+use Rattle.steps.specs.Instructions.{call}
 use Rattle.instructions.proofs.call.Statement.{statement}
 use Rattle.instructions.proofs.call.Tie as tie
 

@@ -2,7 +2,7 @@
 use borrow.Author.Needs.{needs}
 use borrow.Author.Tests.{ne-eqb}
 use Rattle.alu.specs.Alu.{alu}
-use Rattle.instructions.specs.Instructions.{computation}
+use Rattle.steps.specs.Instructions.{computation}
 use Rattle.instructions.proofs.computation.Statement.{statement}
 use Rattle.instructions.proofs.computation.Tie as tie
 

@@ -1,6 +1,6 @@
 -- Each value is what its call ensures.
 use borrow.Author.Needs.{needs}
-use Rattle.instructions.specs.Instructions.{gpsw}
+use Rattle.steps.specs.Instructions.{gpsw}
 use Rattle.instructions.proofs.gpsw.Statement.{statement}
 use Rattle.instructions.proofs.gpsw.Tie as tie
 

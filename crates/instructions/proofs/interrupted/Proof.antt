@@ -1,6 +1,6 @@
 -- Each value is what its call ensures.
 use borrow.Author.Needs.{needs}
-use Rattle.instructions.specs.Instructions.{interrupted}
+use Rattle.steps.specs.Instructions.{interrupted}
 use Rattle.instructions.proofs.interrupted.Statement.{statement}
 use Rattle.instructions.proofs.interrupted.Tie as tie
 

@@ -1,6 +1,6 @@
 -- Each value is what its call ensures.
 use borrow.Author.Needs.{needs}
-use Rattle.instructions.specs.Instructions.{jmp}
+use Rattle.steps.specs.Instructions.{jmp}
 use Rattle.instructions.proofs.jmp.Statement.{statement}
 use Rattle.instructions.proofs.jmp.Tie as tie
 

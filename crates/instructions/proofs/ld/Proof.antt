@@ -1,6 +1,6 @@
 -- Each value is what its call ensures.
 use borrow.Author.Needs.{needs}
-use Rattle.instructions.specs.Instructions.{ld}
+use Rattle.steps.specs.Instructions.{ld}
 use Rattle.instructions.proofs.ld.Statement.{statement}
 use Rattle.instructions.proofs.ld.Tie as tie
 

@@ -1,6 +1,6 @@
 -- The ALU gives the value and the flags.
 use borrow.Author.Needs.{needs}
-use Rattle.instructions.specs.Instructions.{logic}
+use Rattle.steps.specs.Instructions.{logic}
 use Rattle.instructions.proofs.logic.Statement.{statement}
 use Rattle.instructions.proofs.logic.Tie as tie
 

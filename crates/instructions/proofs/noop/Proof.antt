@@ -1,6 +1,6 @@
 -- PC is what its call ensures.
 use borrow.Author.Needs.{needs}
-use Rattle.instructions.specs.Instructions.{noop}
+use Rattle.steps.specs.Instructions.{noop}
 use Rattle.instructions.proofs.noop.Statement.{statement}
 use Rattle.instructions.proofs.noop.Tie as tie
 

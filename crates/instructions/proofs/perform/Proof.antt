@@ -2,7 +2,7 @@
 use borrow.Author.Needs.{needs}
 use borrow.Author.Tests.{ne-eqb}
 use Rattle.words.specs.Shifter.{shifter}
-use Rattle.instructions.specs.Instructions.{effect}
+use Rattle.steps.specs.Instructions.{effect}
 use Rattle.instructions.proofs.perform.Statement.{statement}
 use Rattle.instructions.proofs.perform.Tie as tie
 

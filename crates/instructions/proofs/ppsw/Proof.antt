@@ -1,6 +1,6 @@
 -- Each value is what its call ensures; sm says which way.
 use borrow.Author.Needs.{needs}
-use Rattle.instructions.specs.Instructions.{ppsw}
+use Rattle.steps.specs.Instructions.{ppsw}
 use Rattle.instructions.proofs.ppsw.Statement.{statement}
 use Rattle.instructions.proofs.ppsw.Tie as tie
 

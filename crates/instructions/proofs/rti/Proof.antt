@@ -1,6 +1,6 @@
 -- Each value is what its call ensures.
 use borrow.Author.Needs.{needs}
-use Rattle.instructions.specs.Instructions.{rti}
+use Rattle.steps.specs.Instructions.{rti}
 use Rattle.instructions.proofs.rti.Statement.{statement}
 use Rattle.instructions.proofs.rti.Tie as tie
 

@@ -1,6 +1,6 @@
 -- Each value is what its call ensures.
 use borrow.Author.Needs.{needs}
-use Rattle.instructions.specs.Instructions.{rtn}
+use Rattle.steps.specs.Instructions.{rtn}
 use Rattle.instructions.proofs.rtn.Statement.{statement}
 use Rattle.instructions.proofs.rtn.Tie as tie
 

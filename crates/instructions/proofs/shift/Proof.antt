@@ -1,6 +1,6 @@
 -- The shifter gives the value and the carry.
 use borrow.Author.Needs.{needs}
-use Rattle.instructions.specs.Instructions.{shift}
+use Rattle.steps.specs.Instructions.{shift}
 use Rattle.instructions.proofs.shift.Statement.{statement}
 use Rattle.instructions.proofs.shift.Tie as tie
 

@@ -1,6 +1,6 @@
 -- Each value is what its call ensures.
 use borrow.Author.Needs.{needs}
-use Rattle.instructions.specs.Instructions.{st}
+use Rattle.steps.specs.Instructions.{st}
 use Rattle.instructions.proofs.st.Statement.{statement}
 use Rattle.instructions.proofs.st.Tie as tie
 

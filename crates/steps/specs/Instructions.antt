@@ -1,6 +1,6 @@
--- The 32 opcodes and the interrupt step: the register transfers of section 5.1.1.3 (pp. 68-75) and the formal JMP, ADD and EINT of section
--- 5.2.6 (pp. 130-136), in the source's order. A part of the state that a comment line does not name is kept. Of the operands, `a`, `b`, `d` and
--- `ssp` are the values R[a], R[b], R[d] and R[ssp], and `dest` is the destination's number. Assumes nothing.
+-- The 32 opcodes and the interrupt step: the register transfers of section 5.1.1.3 (pp. 68-75) and the formal JMP, ADD and EINT of
+-- section 5.2.6 (pp. 130-136), in the source's order. A part of the state that a comment line does not name is kept. Of the operands,
+-- `a`, `b`, `d` and `ssp` are the values R[a], R[b], R[d] and R[ssp], and `dest` is the destination's number. Assumes nothing.
 use Prim.Native.Nat.{ℕ}
 use mathlib.Core.Bool.{Bool, true, false, cond}
 use mathlib.Core.List.{List}
@@ -15,9 +15,9 @@ use Rattle.status.specs.Psw.{mk-psw, get-psw}
 use Rattle.status.specs.Jump.{jump-cond}
 use Rattle.blocks.specs.declared.memory.Store.the-variants.{Nothing, Word}
 use Rattle.blocks.specs.Memory.{fetch}
-use Rattle.instructions.specs.declared.Operands.{Operands}
-use Rattle.instructions.specs.declared.Effect.{Effect}
-use Rattle.instructions.specs.Effects.{add, inc, dec, goes, put, mode, zcnv, zn, carry}
+use Rattle.steps.specs.declared.Operands.{Operands}
+use Rattle.steps.specs.declared.Effect.{Effect}
+use Rattle.steps.specs.Effects.{add, inc, dec, goes, put, mode, zcnv, zn, carry}
 
 -- JMP: pc' = JUMP_COND(dest, psw) ? R[a] + imm : pc + 1
 unfoldable pub jmp : Operands → Effect

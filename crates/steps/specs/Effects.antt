@@ -7,8 +7,8 @@ use Rattle.alu.specs.declared.AluOutput.{AluOutput}
 use Rattle.alu.specs.Alu.{sum, difference}
 use Rattle.status.specs.declared.psw.Psw.{Psw}
 use Rattle.blocks.specs.declared.memory.Store.the-variants.{Nothing}
-use Rattle.instructions.specs.declared.Operands.{Operands}
-use Rattle.instructions.specs.declared.Effect.{Effect}
+use Rattle.steps.specs.declared.Operands.{Operands}
+use Rattle.steps.specs.declared.Effect.{Effect}
 
 -- `add`, `inc`, `dec` of words (section 5.2.1, pp. 87-91)
 abbrev pub add : ℕ → ℕ → ℕ

@@ -1,0 +1,72 @@
+-- DROPPED WRITES. An instruction whose destination can't be written, register 0 or in user mode one of 1 to 7, changes no register at
+-- all; what else it does (PC, flags, memory) it does all the same. INT, RTI and the interrupt step write SSP and not their destination.
+use Prim.Native.Nat.{ℕ}
+use mathlib.Core.Path.{_≡_, refl, ap, _∙_}
+use mathlib.Core.Bool.{Bool, true, false, not, _&&_}
+use mathlib.Core.Logic.{_⊎_, inl, inr}
+use lib.Dec.{eqb}
+use borrow.Author.Tests.{eqb-true, eqb-false}
+use Rattle.words.specs.Fields.{dest}
+use Rattle.words.specs.Registers.{is-sup-reg, update-reg}
+use Rattle.words.proofs.Cases.{upright}
+use Rattle.words.proofs.RegisterRule.{zero-register, guarded}
+use Rattle.steps.specs.declared.Operands.{Operands}
+use Rattle.steps.specs.declared.Effect.{Effect}
+use Rattle.steps.specs.Instructions.{jmp, call, rtn, gpsw, ppsw, ld, st, shift, arithmetic, logic, noop, effect, eint-key}
+use Rattle.steps.specs.Step.{Macro, operands}
+use Rattle.steps.specs.Programs.{next, instruction, entry, writable}
+use Rattle.steps.proofs.StepsTaken.{taken}
+use Rattle.steps.proofs.EveryInstruction.{Kinds, every}
+
+-- a write to a register that can't be written
+nothing-written : (s : Macro) (n value : ℕ) → writable s n ≡ false
+    → update-reg (s .machine .psw .sm) n (s .machine .registers) value ≡ s .machine .registers
+nothing-written s n value locked = by-number (eqb n 0) refl locked
+  where
+    by-number : (t : Bool) → eqb n 0 ≡ t → (not t && not (is-sup-reg n && not (s .machine .psw .sm))) ≡ false
+        → update-reg (s .machine .psw .sm) n (s .machine .registers) value ≡ s .machine .registers
+    by-number true e l = zero-register (s .machine .psw .sm) n (s .machine .registers) value (eqb-true n 0 e)
+    by-number false e l = guarded (s .machine .psw .sm) n (s .machine .registers) value (eqb-false n 0 e) (upright _ l)
+
+module _ (s : Macro) (request : Bool) (not-int : entry s request ≡ 2 → ⊥) (not-rti : entry s request ≡ 3 → ⊥)
+    (not-interrupt : entry s request ≡ eint-key → ⊥) where
+  abbrev reads : Operands
+  reads = operands (instruction s) (s .machine)
+
+  -- an effect on the destination or on no register
+  abbrev OwnWrite : Effect → Type 0
+  OwnWrite e = (e .sm ≡ s .machine .psw .sm) × ((e .register ≡ dest (instruction s)) ⊎ (e .register ≡ 0))
+
+  own-writes : Kinds (entry s request) (s .memory) reads OwnWrite
+  unfolding jmp call rtn gpsw ppsw ld st shift arithmetic logic noop
+  own-writes =
+      record {
+        jmp-kind = (refl, inr refl);
+        call-kind = λ k. (refl, inl refl);
+        int-kind = λ k. absurd (not-int k);
+        rti-kind = λ k. absurd (not-rti k);
+        gpsw-kind = (refl, inl refl);
+        ppsw-kind = (refl, inr refl);
+        ld-kind = λ offset. (refl, inl refl);
+        st-kind = λ k offset. (refl, inr refl);
+        shift-kind = λ value out w. (refl, inl refl);
+        rtn-kind = (refl, inl refl);
+        eint-kind = λ k. absurd (not-interrupt k);
+        arithmetic-kind = λ out w. (refl, inl refl);
+        logic-kind = λ out w. (refl, inl refl);
+        noop-kind = (refl, inr refl);
+      }
+
+  pub dropped-write-changes-no-register : writable s (dest (instruction s)) ≡ false
+      → next s request .machine .registers ≡ s .machine .registers
+  dropped-write-changes-no-register locked =
+      let writes = every (entry s request) (s .memory) reads OwnWrite own-writes in
+      ap (λ (t : Macro). t .machine .registers) (taken s request) ∙ rw (writes .0) (by-register (writes .1))
+    where
+      e : Effect
+      e = effect (entry s request) (s .memory) reads
+
+      by-register : (e .register ≡ dest (instruction s)) ⊎ (e .register ≡ 0)
+          → update-reg (s .machine .psw .sm) (e .register) (s .machine .registers) (e .value) ≡ s .machine .registers
+      by-register (inl own) = rw own (nothing-written s (dest (instruction s)) (e .value) locked)
+      by-register (inr none) = zero-register (s .machine .psw .sm) (e .register) (s .machine .registers) (e .value) none

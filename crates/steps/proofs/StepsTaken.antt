@@ -1,0 +1,94 @@
+-- What a step is where its instruction is known: the laws about programs start from here.
+use Prim.Native.Nat.{ℕ, _^_, _<_}
+use native.Mathlib.Nat.{lt-of-lt-of-le}
+use native.Mathlib.Omega.{arith}
+use mathlib.Core.Path.{_≡_, refl, ap, _∙_}
+use mathlib.Core.Bool.{Bool, true, not, _&&_}
+use mathlib.Core.List.{List}
+use lib.Dec.{eqb, leb}
+use lib.Count.{ones}
+use lib.ListN.{length, set}
+use lib.Seq.{getD-set-same}
+use borrow.Author.Tests.{ne-eqb, eqb-false, leb-true}
+use Rattle.words.specs.Fields.{dest, srca, srcb, imm}
+use Rattle.words.specs.Lengths.{legal-length, fewest-words, most-words}
+use Rattle.words.specs.Registers.{register, is-sup-reg, update-reg}
+use Rattle.words.proofs.Cases.{turned, and-right, both-of}
+use Rattle.words.proofs.FieldBounds.{field-lt, dest-lt}
+use Rattle.words.proofs.RegisterRule.{stored}
+use Rattle.alu.specs.declared.AluOutput.{AluOutput}
+use Rattle.blocks.specs.Memory.{applied}
+use Rattle.steps.specs.declared.Effect.{Effect}
+use Rattle.steps.specs.Effects.{inc, zcnv}
+use Rattle.steps.specs.Instructions.{effect, eint}
+use Rattle.steps.specs.Step.{Macro, operands, selected, performed, step}
+use Rattle.steps.specs.Programs.{next, instruction, entry, Legal, Does, Operates, on-registers, with-immediate, writable}
+
+-- an effect on a state
+abbrev pub done : Effect → Macro → Macro
+done e s = record { machine = performed e (s .machine); memory = applied (e .store) (s .memory) }
+
+-- the step of a state by the entry that it chooses
+abbrev pub by-entry : ℕ → Macro → Macro
+by-entry key s = done (effect key (s .memory) (operands (instruction s) (s .machine))) s
+
+pub taken : (s : Macro) (int : Bool) → next s int ≡ by-entry (entry s int) s
+unfolding step
+taken s int = refl
+
+pub does : {key : ℕ} (s : Macro) (int : Bool) → Does key s int → next s int ≡ by-entry key s
+unfolding step selected
+does s int d = rw (d .undisturbed, d .chosen)
+
+-- a request that is up is taken where ie is set
+pub interrupts : (s : Macro) → s .machine .psw .ie ≡ true → next s true ≡ done (eint (operands (instruction s) (s .machine))) s
+unfolding step selected effect
+interrupts s on = rw on
+
+-- a writable register gets the value
+pub written : (s : Macro) (n value : ℕ) → writable s n ≡ true
+    → update-reg (s .machine .psw .sm) n (s .machine .registers) value ≡ set (s .machine .registers) n value
+written s n value w =
+    let parts = both-of (not (eqb n 0)) (not (is-sup-reg n && not (s .machine .psw .sm))) w in
+    stored (s .machine .psw .sm) n (s .machine .registers) value (eqb-false n 0 (turned (eqb n 0) (parts .0))) (turned _ (parts .1))
+
+-- .. and holds it then, if it is the destination of an instruction word
+pub holds-it : (s : Macro) → Legal s → (w value : ℕ) → writable s (dest w) ≡ true
+    → register (update-reg (s .machine .psw .sm) (dest w) (s .machine .registers) value) (dest w) ≡ value
+holds-it s legal w value free =
+    ap (λ (l : List ℕ). register l (dest w)) (written s (dest w) value free)
+    ∙ getD-set-same (s .machine .registers) (dest w) value 0 (rw (legal .registers) (dest-lt w))
+
+-- a state one instruction on, with an ALU's output in R[d], under the register rule, and in the flags
+abbrev pub put-out : Macro → AluOutput → Macro
+put-out s out =
+    record {
+      machine = record {
+        registers = update-reg (s .machine .psw .sm) (dest (instruction s)) (s .machine .registers) (out .value);
+        psw = zcnv (s .machine .psw) out;
+        pc = inc (s .machine .pc);
+        ivec = s .machine .ivec;
+      };
+      memory = s .memory;
+    }
+
+-- in supervisor mode every register but 0 is writable
+pub supervisor-writes : (s : Macro) (n : ℕ) → s .machine .psw .sm ≡ true → (n ≡ 0 → ⊥) → writable s n ≡ true
+supervisor-writes s n supervisor h = rw (ne-eqb n 0 h, supervisor, and-right (is-sup-reg n))
+
+-- operands are words
+pub operand-words : {plain immediate a b : ℕ} (s : Macro) (request : Bool) → Legal s → Operates plain immediate s request a b
+    → (a < 2 ^ 32) × (b < 2 ^ 32)
+unfolding imm
+operand-words s request legal (on-registers d) = (legal .words (srca (instruction s)), legal .words (srcb (instruction s)))
+operand-words s request legal (with-immediate d) =
+    (legal .words (srca (instruction s)), lt-of-lt-of-le (field-lt (instruction s) 0 16) (omega arith))
+
+-- a legal memory has words
+pub has-words : (s : Macro) → Legal s → 0 < length (s .memory)
+unfolding legal-length
+has-words s legal =
+    let m = length (s .memory) in
+    let ends = both-of (eqb (ones m) 1) (leb fewest-words m && leb m most-words) (legal .size) .1 in
+    let least = leb-true fewest-words m (both-of (leb fewest-words m) (leb m most-words) ends .0) in
+    omega arith
