@@ -34,6 +34,15 @@ difference-without-borrow a b borrow ha hb e =
       difference-lt a b borrow,
     )
 
+pub difference-with-borrow : (a b : ℕ) → a < 2 ^ 32 → b < 2 ^ 32 → difference-carry a b false ≡ false → difference a b false + b ≡ a + 2 ^ 32
+difference-with-borrow a b ha hb e =
+    omega (
+      arith,
+      leb-false (b + 0) a (sym (nothing-borrowed a b false ha hb) ∙ e),
+      added-back a b false ha hb,
+      difference-lt a b false,
+    )
+
 -- ---- the words as signed numbers
 
 -- Two numbers of one range of 2 ^ 32 that differ by a multiple of 2 ^ 32 are one: a word that the true result leaves, and that result,

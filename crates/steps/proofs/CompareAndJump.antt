@@ -14,11 +14,11 @@ use Rattle.status.specs.declared.psw.Psw.{Psw}
 use Rattle.status.specs.Jump.{jump-cond}
 use Rattle.status.proofs.Comparisons as Comparisons
 use Rattle.steps.specs.Effects.{add, inc}
-use Rattle.steps.specs.Instructions.{arithmetic, computation, effect}
 use Rattle.steps.specs.Relations.{relation}
 use Rattle.steps.specs.Step.{Macro}
-use Rattle.steps.specs.Programs.{next, instruction, holds, Legal, Does, Operates, on-registers, with-immediate}
-use Rattle.steps.proofs.StepsTaken.{does, operand-words}
+use Rattle.steps.specs.Programs.{next, instruction, holds, Legal, Does, Operates}
+use Rattle.steps.proofs.StepsTaken.{operand-words}
+use Rattle.steps.proofs.SumSteps.{sub-puts}
 use Rattle.steps.proofs.Jumps.{jmp-moves-pc-alone}
 
 -- ---- a jump code after a comparison is its relation
@@ -61,9 +61,8 @@ after-comparison : (s : Macro) (request : Bool) {a b : ℕ} → Operates 18 26 s
       };
       memory = s .memory;
     }
-unfolding effect computation arithmetic update-reg subtracted
-after-comparison s request (on-registers d) zero = does s request d ∙ rw zero
-after-comparison s request (with-immediate d) zero = does s request d ∙ rw zero
+unfolding update-reg subtracted
+after-comparison s request compares nowhere = sub-puts s request compares ∙ rw nowhere
 
 -- Let SUB or SUBI into register 0 compare two words, and JMP with a code from 6 to 13 stand behind. It jumps exactly where they are in
 -- the code's relation, and else goes on; registers and memory are as before.

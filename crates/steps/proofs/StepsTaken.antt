@@ -16,10 +16,8 @@ use Rattle.words.specs.Registers.{register, is-sup-reg, update-reg}
 use Rattle.words.proofs.Cases.{turned, and-right, both-of}
 use Rattle.words.proofs.FieldBounds.{field-lt, dest-lt}
 use Rattle.words.proofs.RegisterRule.{stored}
-use Rattle.alu.specs.declared.AluOutput.{AluOutput}
 use Rattle.blocks.specs.Memory.{applied}
 use Rattle.steps.specs.declared.Effect.{Effect}
-use Rattle.steps.specs.Effects.{inc, zcnv}
 use Rattle.steps.specs.Instructions.{effect, eint}
 use Rattle.steps.specs.Step.{Macro, operands, selected, performed, step}
 use Rattle.steps.specs.Programs.{next, instruction, entry, Legal, Does, Operates, on-registers, with-immediate, writable}
@@ -58,19 +56,6 @@ pub holds-it : (s : Macro) → Legal s → (w value : ℕ) → writable s (dest 
 holds-it s legal w value free =
     ap (λ (l : List ℕ). register l (dest w)) (written s (dest w) value free)
     ∙ getD-set-same (s .machine .registers) (dest w) value 0 (rw (legal .registers) (dest-lt w))
-
--- a state one instruction on, with an ALU's output in R[d], under the register rule, and in the flags
-abbrev pub put-out : Macro → AluOutput → Macro
-put-out s out =
-    record {
-      machine = record {
-        registers = update-reg (s .machine .psw .sm) (dest (instruction s)) (s .machine .registers) (out .value);
-        psw = zcnv (s .machine .psw) out;
-        pc = inc (s .machine .pc);
-        ivec = s .machine .ivec;
-      };
-      memory = s .memory;
-    }
 
 -- in supervisor mode every register but 0 is writable
 pub supervisor-writes : (s : Macro) (n : ℕ) → s .machine .psw .sm ≡ true → (n ≡ 0 → ⊥) → writable s n ≡ true

@@ -12,10 +12,10 @@ use Rattle.alu.specs.Alu.{sum, difference, added, subtracted, plain, add-withou
 use Rattle.alu.proofs.AddedZero.{added-zero}
 use Rattle.status.specs.declared.psw.Psw.{Psw}
 use Rattle.steps.specs.Effects.{inc, zcnv}
-use Rattle.steps.specs.Instructions.{arithmetic, computation, effect}
 use Rattle.steps.specs.Step.{Macro}
-use Rattle.steps.specs.Programs.{next, instruction, holds, Legal, Does, writable}
-use Rattle.steps.proofs.StepsTaken.{does, written, put-out}
+use Rattle.steps.specs.Programs.{next, instruction, holds, Legal, Does, on-registers, with-immediate, writable}
+use Rattle.steps.proofs.StepsTaken.{written}
+use Rattle.steps.proofs.SumSteps.{put-out, add-puts, sub-puts}
 
 -- a PSW that shows a value: z where it is zero, n where its bit 31 is set, neither carry nor overflow
 abbrev pub showing : Psw → ℕ → Psw
@@ -57,15 +57,11 @@ module _ (s : Macro) (request : Bool) (legal : Legal s) where
   abbrev source : ℕ
   source = holds s (srca (instruction s))
 
-  -- ---- ADD, and ADD with register 0 as second source
-
-  adds : Does 16 s request → next s request ≡ put-out s (add-without-carry source (holds s (srcb (instruction s))))
-  unfolding effect computation arithmetic
-  adds d = does s request d
+  -- ---- ADD with register 0 as second source
 
   with-zero : Does 16 s request → srcb (instruction s) ≡ 0 → next s request ≡ put-out s (plain source)
   with-zero d zero =
-      adds d ∙ ap (λ (b : ℕ). put-out s (add-without-carry source b)) (ap (holds s) zero ∙ legal .zero)
+      add-puts s request (on-registers d) ∙ ap (λ (b : ℕ). put-out s (add-without-carry source b)) (ap (holds s) zero ∙ legal .zero)
       ∙ ap (put-out s) (added-zero source (legal .words (srca (instruction s))))
 
   -- move s to d, ADD R[d] R[s] R[0]: R[d] gets R[s]; the flags show it
@@ -102,18 +98,18 @@ module _ (s : Macro) (request : Bool) (legal : Legal s) where
   -- increment s, ADDI R[s] R[s] 1: one more, and 0 after 2 ^ 32 - 1
   pub increment : Does 24 s request → srca (instruction s) ≡ own → imm (instruction s) ≡ 1 → writable s own ≡ true
       → next s request ≡ on-with s own ((old + 1) % 2 ^ 32) (zcnv (s .machine .psw) (add-without-carry old 1))
-  unfolding effect computation arithmetic added
-  increment d same one free = does s request d ∙ rw (same, one, written s own (sum old 1 false) free, one-more old)
+  unfolding added
+  increment d same one free = add-puts s request (with-immediate d) ∙ rw (same, one, written s own (sum old 1 false) free, one-more old)
 
   -- decrement s, SUBI R[s] R[s] 1: one less, and 2 ^ 32 - 1 after 0
   pub decrement : Does 26 s request → srca (instruction s) ≡ own → imm (instruction s) ≡ 1 → writable s own ≡ true
       → next s request ≡ on-with s own ((old + (2 ^ 32 - 1)) % 2 ^ 32) (zcnv (s .machine .psw) (sub-without-carry old 1))
-  unfolding effect computation arithmetic subtracted
-  decrement d same one free = does s request d ∙ rw (same, one, written s own (difference old 1 false) free, one-less old)
+  unfolding subtracted
+  decrement d same one free = sub-puts s request (with-immediate d) ∙ rw (same, one, written s own (difference old 1 false) free, one-less old)
 
   -- complement s, SUB R[s] R[0] R[s]: 2 ^ 32 - R[s], that is minus R[s] as a signed number; the bitwise complement is BNOT
   pub negate : Does 18 s request → srca (instruction s) ≡ 0 → srcb (instruction s) ≡ own → writable s own ≡ true
       → next s request ≡ on-with s own ((2 ^ 32 - old) % 2 ^ 32) (zcnv (s .machine .psw) (sub-without-carry 0 old))
-  unfolding effect computation arithmetic subtracted
+  unfolding subtracted
   negate d zero same free =
-      does s request d ∙ rw (zero, legal .zero, same, written s own (difference 0 old false) free, minus old (legal .words own))
+      sub-puts s request (on-registers d) ∙ rw (zero, legal .zero, same, written s own (difference 0 old false) free, minus old (legal .words own))
