@@ -127,7 +127,7 @@ check_laws() {
         done
     done
     for cite in $(grep -oE '`steps/specs/[^`]*`' "$page" | tr -d '`' | sort -u); do
-        same "$cite is defined" "$(grep -cE "(^| )(pub|record) ${cite#*#} " "crates/${cite%%#*}")" 1
+        same "$cite is defined" "$(grep -cE "(^| )(pub|record|data) ${cite#*#} " "crates/${cite%%#*}")" 1
     done
 }
 
