@@ -93,9 +93,14 @@ check_entries() {
     for k in "${!overview[@]}"; do same "overview, row $((k + 1))" "${shown[k]:-}" "${overview[k]}"; done
 }
 
+# The rows are those of the source's table, and one holds where its law is not a counterexample.
 check_synthesized() {
+    local wanted holds law
     same "synthesized instructions" "$(rows "$page" "## Synthesized instructions" | cut -d '|' -f 1,2)" \
         "$(rows "$source" "### Synthesized instructions (table 5.6, p. 75)" | cut -d '|' -f 1,2)"
+    while IFS='|' read -r wanted _ holds law _; do
+        same "$wanted holds" "$holds" "$([[ $law == *-fails\` ]] && echo no || echo yes)"
+    done < <(rows "$page" "## Synthesized instructions")
 }
 
 # The public theorems of a file. A public field of a record looks like one, but stands further in than the record's first line.
@@ -127,7 +132,36 @@ check_laws() {
         done
     done
     for cite in $(grep -oE '`steps/specs/[^`]*`' "$page" | tr -d '`' | sort -u); do
-        same "$cite is defined" "$(grep -cE "(^| )(pub|record|data) ${cite#*#} " "crates/${cite%%#*}")" 1
+        same "$cite is defined" "$(grep -cE "((abbrev|unfoldable) pub|record|data) ${cite#*#} " "crates/${cite%%#*}")" 1
+    done
+}
+
+# An entry has a law of each file that speaks of its opcode (`Does 11`, `OnRegister 29`, `Operates 18 26`), and none of a file that speaks of
+# other opcodes alone. `entry s request ≡ 2`, by which a law of all steps leaves one out or takes it in, does for the second.
+check_laws_of_entries() {
+    local listed file name code cited must may
+    local -A spoken named
+    listed=$(sed -n '/^-- laws/,$s/^pub mod //p' "$laws/Lib.antt")
+    for file in $listed; do
+        spoken[$file]=" $(grep -v '^ *--' "$laws/$file.antt" | grep -oE '(Does|On|OnRegister) [0-9]+|Operates [0-9]+ [0-9]+' | grep -oE '[0-9]+' | xargs) "
+        named[$file]=" $(grep -oE 'entry s request ≡ [0-9]+' "$laws/$file.antt" | grep -oE '[0-9]+' | xargs) "
+    done
+    cited=$(awk '/^## / { here = $0 == "## The instructions" } sub(/^### /, "") { name = $0 }
+        here { while (match($0, /steps\/proofs\/[A-Za-z]+/)) { print name, substr($0, RSTART + 13, RLENGTH - 13); $0 = substr($0, RSTART + RLENGTH) } }' "$page")
+    for name in "${names[@]}"; do
+        for file in $listed; do
+            must=no may=no
+            [[ $name != EINT && ${spoken[$file]} =~ [0-9] ]] || may=yes
+            for code in ${opcode[$name]//,/}; do
+                [[ ${spoken[$file]} != *" $code "* ]] || must=yes
+                [[ ${named[$file]} != *" $code "* ]] || may=yes
+            done
+            if [ "$must" = yes ]; then
+                same "laws of $file.antt under $name" "$(grep -qxF "$name $file" <<<"$cited" && echo some || echo none)" some
+            elif grep -qxF "$name $file" <<<"$cited"; then
+                same "$file.antt speaks of $name" "$may" yes
+            fi
+        done
     done
 }
 
@@ -146,6 +180,7 @@ read_interrupt_step
 check_entries
 check_synthesized
 check_laws
+check_laws_of_entries
 
 [ -n "${SCHOONLEECH_LIB:-}" ] || one "the library is proved" prove_library
 one "the program that counts microcycles is C99" $cc -std=c99 -pedantic-errors -O2 -Wall -Wextra -Werror -o "$work/microcycles" \

@@ -7,22 +7,22 @@ use mathlib.Core.Path.{_≡_, _∙_, ap, refl}
 use mathlib.Core.Bool.{Bool, true, false, _&&_}
 use lib.ListN.{set}
 use lib.Seq.{set-set, set-getD}
-use Rattle.words.specs.Fields.{opcode, dest, srca, imm}
+use Rattle.words.specs.Fields.{opcode, dest}
 use Rattle.words.specs.Registers.{update-reg}
 use Rattle.alu.proofs.Sums.{off-again}
 use Rattle.blocks.specs.Memory.{fetch, store}
 use Rattle.blocks.proofs.MemoryWords.{read-back, kept-elsewhere}
-use Rattle.steps.specs.Effects.{add, inc, dec}
+use Rattle.steps.specs.Effects.{inc, dec}
 use Rattle.steps.specs.Instructions.{call, rtn, effect}
 use Rattle.steps.specs.Step.{Macro}
-use Rattle.steps.specs.Programs.{next, instruction, holds, Legal, Does, writable, moved-to, apart}
+use Rattle.steps.specs.Programs.{next, instruction, holds, Legal, Does, writable, target, moved-to, apart}
 use Rattle.steps.proofs.StepsTaken.{does, written, holds-it, has-words}
 
 -- RTN takes 1 off its register, under the register rule, and goes to the address that stands there.
-pub rtn-pops : (s : Macro) (int : Bool) → Does 11 s int
+pub rtn-pops : (s : Macro) (request : Bool) → Does 11 s request
     → let stack = dest (instruction s) in
     let popped = dec (holds s stack) in
-    next s int
+    next s request
     ≡ record {
       machine = record {
         registers = update-reg (s .machine .psw .sm) stack (s .machine .registers) popped;
@@ -33,20 +33,16 @@ pub rtn-pops : (s : Macro) (int : Bool) → Does 11 s int
       memory = s .memory;
     }
 unfolding effect rtn
-rtn-pops s int d = does s int d
+rtn-pops s request d = does s request d
 
 -- Let CALL stand at PC.
-module _ (s : Macro) (int : Bool) (legal : Legal s) (calls : Does 1 s int) where
+module _ (s : Macro) (request : Bool) (calls : Does 1 s request) where
   -- its stack register, and what it holds: the address of the stack word
   abbrev stack : ℕ
   stack = dest (instruction s)
 
   abbrev top : ℕ
   top = holds s stack
-
-  -- where it goes
-  abbrev target : ℕ
-  target = add (holds s (srca (instruction s))) (imm (instruction s))
 
   -- what it pushes
   abbrev pushed : ℕ
@@ -58,33 +54,33 @@ module _ (s : Macro) (int : Bool) (legal : Legal s) (calls : Does 1 s int) where
         machine = record {
           registers = update-reg (s .machine .psw .sm) stack (s .machine .registers) (inc top);
           psw = s .machine .psw;
-          pc = target;
+          pc = target s;
           ivec = s .machine .ivec;
         };
         memory = store (s .memory) top pushed;
       }
 
-  after-call : next s int ≡ called
+  after-call : next s request ≡ called
   unfolding effect call
-  after-call = does s int calls
+  after-call = does s request calls
 
   -- CALL jumps by the register as it was, also where it is the one that CALL moves
-  pub call-jumps-by-the-old-register : next s int .machine .pc ≡ target
+  pub call-jumps-by-the-old-register : next s request .machine .pc ≡ target s
   call-jumps-by-the-old-register = ap (λ (t : Macro). t .machine .pc) after-call
 
   -- what CALL leaves: the stack register moved on, and the stack word
-  module _ (free : writable s stack ≡ true) where
-    pointer-after : holds (next s int) stack ≡ inc top
+  module _ (legal : Legal s) (free : writable s stack ≡ true) where
+    pointer-after : holds (next s request) stack ≡ inc top
     pointer-after =
         ap (λ (t : Macro). holds t stack) after-call ∙ holds-it s legal (instruction s) (inc top) free
 
-    word-after : fetch (next s int .memory) top ≡ pushed
+    word-after : fetch (next s request .memory) top ≡ pushed
     word-after = ap (λ (t : Macro). fetch (t .memory) top) after-call ∙ read-back (s .memory) top pushed (has-words s legal)
 
     -- However much was done in between: let RTN with the same stack register, still writable, find that register and the stack word as
     -- CALL left them. Then it goes behind the CALL, puts the register back, and changes nothing else.
     module _ (t : Macro) (later : Bool) (returns : Does 11 t later) (same : dest (instruction t) ≡ stack) (still : writable t stack ≡ true)
-        (pointer : holds t stack ≡ holds (next s int) stack) (word : fetch (t .memory) top ≡ fetch (next s int .memory) top) where
+        (pointer : holds t stack ≡ holds (next s request) stack) (word : fetch (t .memory) top ≡ fetch (next s request .memory) top) where
       popped : dec (holds t stack) ≡ top
       popped = ap dec (pointer ∙ pointer-after) ∙ off-again top (legal .words stack)
 
@@ -116,16 +112,16 @@ module _ (s : Macro) (int : Bool) (legal : Legal s) (calls : Does 1 s int) where
     -- Nothing in between: let RTN with the same stack register stand where CALL goes, in another word than the stack word (modulo M), and
     -- no interrupt be taken before it. Then the two are back behind the CALL, all registers and the PSW as before, and of memory only the
     -- stack word is changed.
-    module _ (later : Bool) (undisturbed : (later && s .machine .psw .ie) ≡ false) (far : apart (s .memory) target top)
-        (there : opcode (fetch (s .memory) target) ≡ 11) (same : dest (fetch (s .memory) target) ≡ stack) where
-      found : instruction (next s int) ≡ fetch (s .memory) target
-      found = ap instruction after-call ∙ kept-elsewhere (s .memory) top target pushed far
+    module _ (later : Bool) (undisturbed : (later && s .machine .psw .ie) ≡ false) (far : apart (s .memory) (target s) top)
+        (there : opcode (fetch (s .memory) (target s)) ≡ 11) (same : dest (fetch (s .memory) (target s)) ≡ stack) where
+      found : instruction (next s request) ≡ fetch (s .memory) (target s)
+      found = ap instruction after-call ∙ kept-elsewhere (s .memory) top (target s) pushed far
 
-      returns-there : Does 11 (next s int) later
+      returns-there : Does 11 (next s request) later
       returns-there = record { undisturbed = rw after-call undisturbed; chosen = ap opcode found ∙ there }
 
-      pub call-then-return : next (next s int) later
+      pub call-then-return : next (next s request) later
           ≡ record { machine = moved-to (inc (s .machine .pc)) (s .machine); memory = store (s .memory) top (inc (s .machine .pc)) }
       call-then-return =
-          return-behind-call (next s int) later returns-there (ap dest found ∙ same) (rw after-call free) refl refl
+          return-behind-call (next s request) later returns-there (ap dest found ∙ same) (rw after-call free) refl refl
           ∙ rw (after-call, written s stack (inc top) free, set-set, set-getD)

@@ -3,17 +3,17 @@
 -- table says.
 use Prim.Native.Nat.{ℕ, suc, _^_, _<_, _≤_}
 use native.Mathlib.Nat.{le-antisymm, le-trans, lt-irrefl}
-use mathlib.Core.Path.{_≡_, subst, _∙_}
+use mathlib.Core.Path.{_≡_, ap, subst, _∙_}
 use mathlib.Core.Bool.{Bool, cond}
 use mathlib.Core.Logic.{_⊎_, inl, inr}
 use Rattle.words.specs.Fields.{dest, srca, imm}
 use Rattle.words.specs.Registers.{update-reg}
 use Rattle.words.proofs.Cases.{lt-or-le}
-use Rattle.alu.specs.Alu.{subtracted}
+use Rattle.alu.specs.Alu.{subtracted, sub-without-carry}
 use Rattle.status.specs.declared.psw.Psw.{Psw}
 use Rattle.status.specs.Jump.{jump-cond}
 use Rattle.status.proofs.Comparisons as Comparisons
-use Rattle.steps.specs.Effects.{add, inc}
+use Rattle.steps.specs.Effects.{add, inc, zcnv}
 use Rattle.steps.specs.Relations.{relation}
 use Rattle.steps.specs.Step.{Macro}
 use Rattle.steps.specs.Programs.{next, instruction, holds, Legal, Does, Operates}
@@ -49,40 +49,43 @@ by-code p a b ha hb code h most =
 
 -- ---- the two steps
 
--- after the comparison: the flags of the subtraction, and PC goes on
+-- after SUB or SUBI into register 0: the flags of the subtraction, and PC goes on
 after-comparison : (s : Macro) (request : Bool) {a b : ℕ} → Operates 18 26 s request a b → dest (instruction s) ≡ 0
     → next s request
     ≡ record {
       machine = record {
         registers = s .machine .registers;
-        psw = Comparisons.compared (s .machine .psw) a b;
+        psw = zcnv (s .machine .psw) (sub-without-carry a b);
         pc = inc (s .machine .pc);
         ivec = s .machine .ivec;
       };
       memory = s .memory;
     }
-unfolding update-reg subtracted
+unfolding update-reg
 after-comparison s request compares nowhere = sub-puts s request compares ∙ rw nowhere
 
 -- Let SUB or SUBI into register 0 compare two words, and JMP with a code from 6 to 13 stand behind. It jumps exactly where they are in
 -- the code's relation, and else goes on; registers and memory are as before.
 module _ (s : Macro) (request later : Bool) (legal : Legal s) {a b : ℕ} (compares : Operates 18 26 s request a b)
-    (nowhere : dest (instruction s) ≡ 0) (jumps : Does 0 (next s request) later)
-    (code : ℕ) (names : dest (instruction (next s request)) ≡ code) (least : 6 ≤ code) (most : code ≤ 13) where
-  abbrev jump : ℕ
-  jump = instruction (next s request)
-
-  pub compare-then-jump : next (next s request) later
-      ≡ record {
+    (nowhere : dest (instruction s) ≡ 0) (jumps : Does 0 (next s request) later) (jump : ℕ) (behind : instruction (next s request) ≡ jump)
+    (least : 6 ≤ dest jump) (most : dest jump ≤ 13) where
+  -- the state after both, by whether it jumps
+  abbrev jumped : Bool → Macro
+  jumped t =
+      record {
         machine = record {
           registers = s .machine .registers;
           psw = Comparisons.compared (s .machine .psw) a b;
-          pc = cond (relation code a b) (add (holds s (srca jump)) (imm jump)) (inc (inc (s .machine .pc)));
+          pc = cond t (add (holds s (srca jump)) (imm jump)) (inc (inc (s .machine .pc)));
           ivec = s .machine .ivec;
         };
         memory = s .memory;
       }
+
+  pub compare-then-jump : next (next s request) later ≡ jumped (relation (dest jump) a b)
+  unfolding subtracted
   compare-then-jump =
       let words = operand-words s request legal compares in
       jmp-moves-pc-alone (next s request) later jumps
-      ∙ rw (names, after-comparison s request compares nowhere, by-code (s .machine .psw) a b (words .0) (words .1) code least most)
+      ∙ rw (behind, after-comparison s request compares nowhere)
+      (ap jumped (by-code (s .machine .psw) a b (words .0) (words .1) (dest jump) least most))

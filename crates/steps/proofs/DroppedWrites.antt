@@ -1,7 +1,7 @@
 -- DROPPED WRITES. An instruction whose destination can't be written, register 0 or in user mode one of 1 to 7, changes no register at
 -- all; what else it does (PC, flags, memory) it does all the same. INT, RTI and the interrupt step write SSP and not their destination.
 use Prim.Native.Nat.{ℕ}
-use mathlib.Core.Path.{_≡_, refl, ap, _∙_}
+use mathlib.Core.Path.{_≡_, refl, _∙_}
 use mathlib.Core.Bool.{Bool, true, false, not, _&&_}
 use mathlib.Core.Logic.{_⊎_, inl, inr}
 use lib.Dec.{eqb}
@@ -10,12 +10,12 @@ use Rattle.words.specs.Fields.{dest}
 use Rattle.words.specs.Registers.{is-sup-reg, update-reg}
 use Rattle.words.proofs.Cases.{upright}
 use Rattle.words.proofs.RegisterRule.{zero-register, guarded}
-use Rattle.steps.specs.declared.Operands.{Operands}
+use Rattle.blocks.specs.Memory.{applied}
 use Rattle.steps.specs.declared.Effect.{Effect}
-use Rattle.steps.specs.Instructions.{jmp, call, rtn, gpsw, ppsw, ld, st, shift, arithmetic, logic, noop, effect, eint-key}
-use Rattle.steps.specs.Step.{Macro, operands}
+use Rattle.steps.specs.Instructions.{jmp, call, rtn, gpsw, ppsw, ld, st, shift, arithmetic, logic, noop, eint-key}
+use Rattle.steps.specs.Step.{Macro}
 use Rattle.steps.specs.Programs.{next, instruction, entry, writable}
-use Rattle.steps.proofs.StepsTaken.{taken}
+use Rattle.steps.proofs.StepsTaken.{reads, what-it-does, by-its-entry}
 use Rattle.steps.proofs.EveryInstruction.{Kinds, every}
 
 -- a write to a register that can't be written
@@ -30,14 +30,11 @@ nothing-written s n value locked = by-number (eqb n 0) refl locked
 
 module _ (s : Macro) (request : Bool) (not-int : entry s request ≡ 2 → ⊥) (not-rti : entry s request ≡ 3 → ⊥)
     (not-interrupt : entry s request ≡ eint-key → ⊥) where
-  abbrev reads : Operands
-  reads = operands (instruction s) (s .machine)
-
   -- an effect on the destination or on no register
   abbrev OwnWrite : Effect → Type 0
   OwnWrite e = (e .sm ≡ s .machine .psw .sm) × ((e .register ≡ dest (instruction s)) ⊎ (e .register ≡ 0))
 
-  own-writes : Kinds (entry s request) (s .memory) reads OwnWrite
+  own-writes : Kinds (entry s request) (s .memory) (reads s) OwnWrite
   unfolding jmp call rtn gpsw ppsw ld st shift arithmetic logic noop
   own-writes =
       record {
@@ -58,15 +55,24 @@ module _ (s : Macro) (request : Bool) (not-int : entry s request ≡ 2 → ⊥) 
       }
 
   pub dropped-write-changes-no-register : writable s (dest (instruction s)) ≡ false
-      → next s request .machine .registers ≡ s .machine .registers
-  dropped-write-changes-no-register locked =
-      let writes = every (entry s request) (s .memory) reads OwnWrite own-writes in
-      ap (λ (t : Macro). t .machine .registers) (taken s request) ∙ rw (writes .0) (by-register (writes .1))
+      → next s request
+      ≡ record {
+        machine = record {
+          registers = s .machine .registers;
+          psw = what-it-does s request .psw;
+          pc = what-it-does s request .pc;
+          ivec = s .machine .ivec;
+        };
+        memory = applied (what-it-does s request .store) (s .memory);
+      }
+  dropped-write-changes-no-register locked = by-its-entry s request ∙ rw (writes .0) (rw (by-register (writes .1)))
     where
-      e : Effect
-      e = effect (entry s request) (s .memory) reads
+      writes : OwnWrite (what-it-does s request)
+      writes = every (entry s request) (s .memory) (reads s) OwnWrite own-writes
 
-      by-register : (e .register ≡ dest (instruction s)) ⊎ (e .register ≡ 0)
-          → update-reg (s .machine .psw .sm) (e .register) (s .machine .registers) (e .value) ≡ s .machine .registers
-      by-register (inl own) = rw own (nothing-written s (dest (instruction s)) (e .value) locked)
-      by-register (inr none) = zero-register (s .machine .psw .sm) (e .register) (s .machine .registers) (e .value) none
+      by-register : (what-it-does s request .register ≡ dest (instruction s)) ⊎ (what-it-does s request .register ≡ 0)
+          → update-reg (s .machine .psw .sm) (what-it-does s request .register) (s .machine .registers) (what-it-does s request .value)
+          ≡ s .machine .registers
+      by-register (inl own) = rw own (nothing-written s (dest (instruction s)) (what-it-does s request .value) locked)
+      by-register (inr none) =
+          zero-register (s .machine .psw .sm) (what-it-does s request .register) (s .machine .registers) (what-it-does s request .value) none

@@ -2,21 +2,20 @@
 use Prim.Native.Nat.{ℕ, zero, suc, _^_, _<_}
 use native.Mathlib.Omega.{arith}
 use mathlib.Core.Path.{refl}
-use mathlib.Core.Bool.{false}
 use mathlib.Core.List.{_∷_}
 use lib.Count.{ones}
 use lib.ListN.{set, replicate}
 use Rattle.words.specs.Lengths.{legal-length}
 use Rattle.words.proofs.WordLists.{Words, set-words}
 use Rattle.steps.specs.Step.{Macro}
-use Rattle.steps.specs.Programs.{Legal}
+use Rattle.steps.specs.Programs.{Legal, clear-psw}
 
 abbrev pub example : ℕ → ℕ → ℕ → Macro
 example first second held =
     record {
       machine = record {
         registers = set (replicate 32 0) 8 held;
-        psw = record { sm = false; ie = false; v = false; n = false; c = false; z = false };
+        psw = clear-psw;
         pc = 0;
         ivec = 0;
       };
@@ -36,6 +35,7 @@ legal-example first second held h k l =
       zero = refl;
       words = set-words (replicate 32 0) 8 held l (zeros 32);
       pc = omega arith;
+      ivec = omega arith;
       size = refl;
       memory = set-words (set (replicate 16 0) 1 second) 0 first h (set-words (replicate 16 0) 1 second k (zeros 16));
     }

@@ -59,16 +59,16 @@ entered s entry back =
 abbrev pub int-entry : Macro → ℕ
 int-entry s = bitAnd 255 (imm (instruction s))
 
-pub int-enters : (s : Macro) (int : Bool) → Does 2 s int → next s int ≡ entered s (int-entry s) (inc (s .machine .pc))
+pub int-enters : (s : Macro) (request : Bool) → Does 2 s request → next s request ≡ entered s (int-entry s) (inc (s .machine .pc))
 unfolding effect interrupted update-reg is-sup-reg
-int-enters s int d = does s int d
+int-enters s request d = does s request d
 
 -- a request that is up, with ie set, enters the handler that the vector names; the instruction at PC waits
 abbrev pub interrupt-entry : Macro → ℕ
 interrupt-entry s = bitAnd 255 (s .machine .ivec)
 
 pub interrupt-enters : (s : Macro) → s .machine .psw .ie ≡ true → next s true ≡ entered s (interrupt-entry s) (s .machine .pc)
-unfolding interrupted update-reg is-sup-reg
+unfolding effect interrupted update-reg is-sup-reg
 interrupt-enters s on = interrupts s on
 
 -- ---- the way back
@@ -112,11 +112,11 @@ module _ (s : Macro) (legal : Legal s) (entry back : ℕ) where
 
 -- Let INT stand at PC, and RTI where it goes, in another word than the stack word (modulo M). Then the two are back behind INT, in user
 -- mode with interrupts on, all registers (SSP too) as before, and of memory only the stack word is changed.
-pub int-then-rti : (s : Macro) (int later : Bool) → Legal s → Does 2 s int
+pub int-then-rti : (s : Macro) (request later : Bool) → Legal s → Does 2 s request
     → apart (s .memory) (int-entry s) (stack-top s) → opcode (fetch (s .memory) (int-entry s)) ≡ 3
-    → next (next s int) later ≡ back-at (inc (s .machine .pc)) s
-int-then-rti s int later legal d far there =
-    ap (λ (t : Macro). next t later) (int-enters s int d) ∙ there-and-back s legal (int-entry s) (inc (s .machine .pc)) far there later
+    → next (next s request) later ≡ back-at (inc (s .machine .pc)) s
+int-then-rti s request later legal d far there =
+    ap (λ (t : Macro). next t later) (int-enters s request d) ∙ there-and-back s legal (int-entry s) (inc (s .machine .pc)) far there later
 
 -- Let a request be up and ie be set, and RTI stand where the vector goes, in another word than the stack word. Then the two are back at the
 -- instruction that was interrupted, in user mode with interrupts on, all registers as before, and only the stack word is changed.
@@ -126,8 +126,8 @@ pub interrupt-then-rti : (s : Macro) (later : Bool) → Legal s → s .machine .
 interrupt-then-rti s later legal on far there =
     ap (λ (t : Macro). next t later) (interrupt-enters s on) ∙ there-and-back s legal (interrupt-entry s) (s .machine .pc) far there later
 
--- So a program in user mode does not notice: the machine is as it was, and so is the instruction at PC, if it is another word than the
--- stack word.
+-- So a program in user mode goes on where it was: the machine is as it was, and so is the instruction at PC, if it is another word than the
+-- stack word. Of memory only the stack word differs.
 pub interrupted-program-resumes : (s : Macro) (later : Bool) → Legal s → s .machine .psw .ie ≡ true → s .machine .psw .sm ≡ false
     → apart (s .memory) (interrupt-entry s) (stack-top s) → opcode (fetch (s .memory) (interrupt-entry s)) ≡ 3
     → apart (s .memory) (s .machine .pc) (stack-top s)

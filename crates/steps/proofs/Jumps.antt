@@ -4,24 +4,20 @@ use native.Mathlib.Omega.{arith}
 use mathlib.Core.Path.{_≡_, ap, _∙_}
 use mathlib.Core.Bool.{Bool, true, cond}
 use borrow.Author.Tests.{ne-eqb}
-use Rattle.words.specs.Fields.{dest, srca, imm}
+use Rattle.words.specs.Fields.{dest}
 use Rattle.words.specs.Registers.{update-reg}
 use Rattle.status.specs.declared.psw.Psw.{Psw}
 use Rattle.status.specs.Jump.{jump-cond}
-use Rattle.steps.specs.Effects.{add, inc}
+use Rattle.steps.specs.Effects.{inc}
 use Rattle.steps.specs.Instructions.{jmp, effect}
 use Rattle.steps.specs.Step.{Macro}
-use Rattle.steps.specs.Programs.{next, instruction, holds, Does, moved-to}
+use Rattle.steps.specs.Programs.{next, instruction, Does, target, moved-to}
 use Rattle.steps.proofs.StepsTaken.{does}
-
--- R[a] + imm
-abbrev pub jump-target : Macro → ℕ
-jump-target s = add (holds s (srca (instruction s))) (imm (instruction s))
 
 pub jmp-moves-pc-alone : (s : Macro) (request : Bool) → Does 0 s request
     → next s request
     ≡ record {
-      machine = moved-to (cond (jump-cond (dest (instruction s)) (s .machine .psw)) (jump-target s) (inc (s .machine .pc))) (s .machine);
+      machine = moved-to (cond (jump-cond (dest (instruction s)) (s .machine .psw)) (target s) (inc (s .machine .pc))) (s .machine);
       memory = s .memory;
     }
 unfolding effect jmp update-reg
@@ -48,8 +44,8 @@ always code p h =
     )
 
 pub codes-from-14-always-jump : (s : Macro) (request : Bool) → Does 0 s request → 14 ≤ dest (instruction s)
-    → next s request ≡ record { machine = moved-to (jump-target s) (s .machine); memory = s .memory }
+    → next s request ≡ record { machine = moved-to (target s) (s .machine); memory = s .memory }
 codes-from-14-always-jump s request d h = jmp-moves-pc-alone s request d ∙ ap jumped (always (dest (instruction s)) (s .machine .psw) h)
   where
     jumped : Bool → Macro
-    jumped t = record { machine = moved-to (cond t (jump-target s) (inc (s .machine .pc))) (s .machine); memory = s .memory }
+    jumped t = record { machine = moved-to (cond t (target s) (inc (s .machine .pc))) (s .machine); memory = s .memory }

@@ -1,11 +1,10 @@
--- LEGAL STATES stay legal: from a state that a caller can lend, every step leads to such a state, and so does every run of steps. The other
--- laws ask for a legal state; this one says that a program that begins in one never leaves them.
+-- LEGAL STATES stay legal: from a state that a caller can lend, every step leads to such a state. Many laws ask for a legal state; by this
+-- one a program that begins in one never leaves them (Throughout).
 use Prim.Native.Nat.{ℕ, zero, _^_, _<_}
 use native.Mathlib.Nat.{lt-of-lt-of-le, lt-of-le-of-lt}
 use native.Mathlib.Omega.{arith}
 use mathlib.Core.Path.{ap, _∙_}
 use mathlib.Core.Bool.{Bool, true, false, cond}
-use mathlib.Core.List.{List, [], _∷_}
 use lib.Bits.{bitAnd, and-le-l}
 use Rattle.words.specs.Fields.{imm, srca, srcb, dest}
 use Rattle.words.specs.Lengths.{legal-length}
@@ -20,14 +19,12 @@ use Rattle.blocks.specs.declared.memory.Store.{Store}
 use Rattle.blocks.specs.declared.memory.Store.the-variants.{Nothing, Word}
 use Rattle.blocks.specs.Memory.{address, fetch, store, applied}
 use Rattle.blocks.proofs.MemoryWords as MemoryWords
-use Rattle.steps.specs.declared.Operands.{Operands}
 use Rattle.steps.specs.declared.Effect.{Effect}
 use Rattle.steps.specs.Effects.{add, inc}
-use Rattle.steps.specs.Instructions.{jmp, call, interrupted, rti, rtn, gpsw, ppsw, ld, st, shift, arithmetic, logic, noop, effect}
-use Rattle.steps.specs.Step.{Macro, operands}
-use Rattle.steps.specs.Run.{up, steps}
+use Rattle.steps.specs.Instructions.{jmp, call, interrupted, rti, rtn, gpsw, ppsw, ld, st, shift, arithmetic, logic, noop}
+use Rattle.steps.specs.Step.{Macro}
 use Rattle.steps.specs.Programs.{next, instruction, entry, holds, Legal}
-use Rattle.steps.proofs.StepsTaken.{taken}
+use Rattle.steps.proofs.StepsTaken.{reads, what-it-does, by-its-entry}
 use Rattle.steps.proofs.EveryInstruction.{OperandWords, Kinds, every}
 
 -- ---- what an instruction computes is a word
@@ -50,12 +47,6 @@ low-byte : (x : ℕ) → bitAnd 255 x < 2 ^ 32
 low-byte x = lt-of-le-of-lt (and-le-l 255 x) (omega arith)
 
 module _ (s : Macro) (legal : Legal s) (request : Bool) where
-  abbrev reads : Operands
-  reads = operands (instruction s) (s .machine)
-
-  abbrev key : ℕ
-  key = entry s request
-
   small : 0 < 2 ^ 32
   small = omega arith
 
@@ -66,54 +57,54 @@ module _ (s : Macro) (legal : Legal s) (request : Bool) where
   unfolding fetch
   fetched a = legal .memory (address (s .memory) a)
 
-  operand-words : OperandWords reads
+  reads-words : OperandWords (reads s)
   unfolding imm
-  operand-words =
+  reads-words =
       record {
         a = legal .words (srca (instruction s));
         b = legal .words (srcb (instruction s));
         imm = lt-of-lt-of-le (field-lt (instruction s) 0 16) (omega arith);
       }
 
-  pushes : (pc back : ℕ) → pc < 2 ^ 32 → back < 2 ^ 32 → WordsOut (interrupted reads pc back)
+  pushes : (pc back : ℕ) → pc < 2 ^ 32 → back < 2 ^ 32 → WordsOut (interrupted (reads s) pc back)
   unfolding interrupted
   pushes pc back h k = record { value = sum-lt (holds s ssp-reg) 1 false; pc = h; stored = k }
 
-  jumped : cond (jump-cond (dest (instruction s)) (s .machine .psw)) (add (reads .a) (reads .imm)) (inc (s .machine .pc)) < 2 ^ 32
+  jumped : cond (jump-cond (dest (instruction s)) (s .machine .psw)) (add (reads s .a) (reads s .imm)) (inc (s .machine .pc)) < 2 ^ 32
   jumped =
-      one-of-two (jump-cond (dest (instruction s)) (s .machine .psw)) (add (reads .a) (reads .imm)) (inc (s .machine .pc))
-      (sum-lt (reads .a) (reads .imm) false) next-pc
+      one-of-two (jump-cond (dest (instruction s)) (s .machine .psw)) (add (reads s .a) (reads s .imm)) (inc (s .machine .pc))
+      (sum-lt (reads s .a) (reads s .imm) false) next-pc
 
-  kinds : Kinds key (s .memory) reads WordsOut
+  kinds : Kinds (entry s request) (s .memory) (reads s) WordsOut
   unfolding jmp call rti rtn gpsw ppsw ld st shift arithmetic logic noop
   kinds =
       record {
         jmp-kind = record { value = small; pc = jumped; stored = small };
-        call-kind = λ k. record { value = sum-lt (reads .d) 1 false; pc = sum-lt (reads .a) (reads .imm) false; stored = next-pc };
-        int-kind = λ k. pushes (bitAnd 255 (reads .imm)) (inc (s .machine .pc)) (low-byte (reads .imm)) next-pc;
-        rti-kind = λ k. record { value = difference-lt (reads .ssp) 1 false; pc = fetched _; stored = small };
+        call-kind = λ k. record { value = sum-lt (reads s .d) 1 false; pc = sum-lt (reads s .a) (reads s .imm) false; stored = next-pc };
+        int-kind = λ k. pushes (bitAnd 255 (reads s .imm)) (inc (s .machine .pc)) (low-byte (reads s .imm)) next-pc;
+        rti-kind = λ k. record { value = difference-lt (reads s .ssp) 1 false; pc = fetched _; stored = small };
         gpsw-kind = record { value = lt-of-lt-of-le (six-bits _) (omega arith); pc = next-pc; stored = small };
         ppsw-kind = record { value = small; pc = next-pc; stored = small };
         ld-kind = λ offset. record { value = fetched _; pc = next-pc; stored = small };
         st-kind = λ k offset. record { value = small; pc = next-pc; stored = legal .words (dest (instruction s)) };
-        shift-kind = λ value out word. record { value = word operand-words; pc = next-pc; stored = small };
-        rtn-kind = record { value = difference-lt (reads .d) 1 false; pc = fetched _; stored = small };
-        eint-kind = λ k. pushes (bitAnd 255 (reads .ivec)) (s .machine .pc) (low-byte (reads .ivec)) (legal .pc);
+        shift-kind = λ value out word. record { value = word reads-words; pc = next-pc; stored = small };
+        rtn-kind = record { value = difference-lt (reads s .d) 1 false; pc = fetched _; stored = small };
+        eint-kind = λ k. pushes (bitAnd 255 (reads s .ivec)) (s .machine .pc) (low-byte (reads s .ivec)) (legal .pc);
         arithmetic-kind = λ out word. record { value = word; pc = next-pc; stored = small };
-        logic-kind = λ out word. record { value = word operand-words; pc = next-pc; stored = small };
+        logic-kind = λ out word. record { value = word reads-words; pc = next-pc; stored = small };
         noop-kind = record { value = small; pc = next-pc; stored = small };
       }
 
-  abbrev what-it-does : Effect
-  what-it-does = effect key (s .memory) reads
+  abbrev effect-is : Effect
+  effect-is = what-it-does s request
 
-  words-out : WordsOut what-it-does
-  words-out = every key (s .memory) reads WordsOut kinds
+  words-out : WordsOut effect-is
+  words-out = every (entry s request) (s .memory) (reads s) WordsOut kinds
 
-  registers-after : Words (update-reg (what-it-does .sm) (what-it-does .register) (s .machine .registers) (what-it-does .value))
+  registers-after : Words (update-reg (effect-is .sm) (effect-is .register) (s .machine .registers) (effect-is .value))
   registers-after =
-      stored-or-not Words (what-it-does .sm) (what-it-does .register) (s .machine .registers) (what-it-does .value) (legal .words)
-      (λ h. set-words (s .machine .registers) (what-it-does .register) (what-it-does .value) (words-out .value) (legal .words))
+      stored-or-not Words (effect-is .sm) (effect-is .register) (s .machine .registers) (effect-is .value) (legal .words)
+      (λ h. set-words (s .machine .registers) (effect-is .register) (effect-is .value) (words-out .value) (legal .words))
 
   memory-after : (st : Store) → stored-word st < 2 ^ 32 → Words (applied st (s .memory))
   unfolding store
@@ -122,17 +113,13 @@ module _ (s : Macro) (legal : Legal s) (request : Bool) where
 
   pub legal-kept : Legal (next s request)
   legal-kept =
-      rw (taken s request)
+      rw (by-its-entry s request)
       (record {
-        registers = length-kept (what-it-does .sm) (what-it-does .register) (s .machine .registers) (what-it-does .value) ∙ legal .registers;
-        zero = zero-kept (what-it-does .sm) (what-it-does .register) (s .machine .registers) (what-it-does .value) ∙ legal .zero;
+        registers = length-kept (effect-is .sm) (effect-is .register) (s .machine .registers) (effect-is .value) ∙ legal .registers;
+        zero = zero-kept (effect-is .sm) (effect-is .register) (s .machine .registers) (effect-is .value) ∙ legal .zero;
         words = registers-after;
         pc = words-out .pc;
-        size = ap legal-length (MemoryWords.length-kept (what-it-does .store) (s .memory)) ∙ legal .size;
-        memory = memory-after (what-it-does .store) (words-out .stored);
+        ivec = legal .ivec;
+        size = ap legal-length (MemoryWords.length-kept (effect-is .store) (s .memory)) ∙ legal .size;
+        memory = memory-after (effect-is .store) (words-out .stored);
       })
-
-pub legal-for-ever : (requests : List ℕ) (s : Macro) → Legal s → Legal (steps (s .memory) (s .machine) requests)
-unfolding steps
-legal-for-ever [] s legal = legal
-legal-for-ever (request ∷ rest) s legal = legal-for-ever rest (next s (up request)) (legal-kept s legal (up request))

@@ -10,9 +10,10 @@ pub mod SumSteps
 pub mod EveryInstruction
 pub mod ExampleStates
 -- laws of the instruction set, for those who program it (docs/INSTRUCTIONS.md)
-pub mod BitThirtyOne
+pub mod TopBit
 pub mod LegalStates
 pub mod RegisterZero
+pub mod Throughout
 pub mod DroppedWrites
 pub mod UserMode
 pub mod Stores

@@ -1,24 +1,19 @@
 -- GPSW AND PPSW. In supervisor mode a program can put the PSW into a register and take it back.
 use Prim.Native.Nat.{ℕ, _<_}
 use mathlib.Core.Path.{_≡_, ap, _∙_}
-use mathlib.Core.Bool.{Bool, true, false}
+use mathlib.Core.Bool.{Bool, true}
 use lib.ListN.{set}
 use Rattle.words.specs.Words.{bit}
 use Rattle.words.specs.Fields.{dest}
 use Rattle.words.specs.Registers.{update-reg}
-use Rattle.status.specs.declared.psw.Psw.{Psw}
 use Rattle.status.specs.Psw.{mk-psw, get-psw}
 use Rattle.status.proofs.PswNumbers.{six-bits, restored}
 use Rattle.steps.specs.Effects.{inc}
 use Rattle.steps.specs.Instructions.{gpsw, ppsw, effect}
 use Rattle.steps.specs.Step.{Macro}
-use Rattle.steps.specs.Programs.{next, instruction, holds, Legal, Does, writable}
+use Rattle.steps.specs.Programs.{next, instruction, holds, Legal, Does, writable, clear-psw}
 use Rattle.steps.proofs.StepsTaken.{does, written, holds-it, supervisor-writes}
 use Rattle.steps.proofs.RegisterZero.{register-0-kept}
-
--- a PSW with every bit clear: user mode, interrupts off
-abbrev pub clear-psw : Psw
-clear-psw = record { sm = false; ie = false; v = false; n = false; c = false; z = false }
 
 -- GPSW puts the PSW's number into its register, under the register rule
 after-gpsw : (s : Macro) (request : Bool) → Does 4 s request

@@ -3,45 +3,55 @@ use Prim.Native.Nat.{ℕ, _^_, _<_}
 use native.Mathlib.Nat.{lt-of-lt-of-le}
 use native.Mathlib.Omega.{arith}
 use mathlib.Core.Path.{_≡_, refl, ap, _∙_}
-use mathlib.Core.Bool.{Bool, true, not, _&&_}
+use mathlib.Core.Bool.{Bool, true, not, cond, _&&_}
 use mathlib.Core.List.{List}
 use lib.Dec.{eqb, leb}
 use lib.Count.{ones}
 use lib.ListN.{length, set}
 use lib.Seq.{getD-set-same}
 use borrow.Author.Tests.{ne-eqb, eqb-false, leb-true}
-use Rattle.words.specs.Fields.{dest, srca, srcb, imm}
+use Rattle.words.specs.Fields.{opcode, dest, srca, srcb, imm}
 use Rattle.words.specs.Lengths.{legal-length, fewest-words, most-words}
 use Rattle.words.specs.Registers.{register, is-sup-reg, update-reg}
 use Rattle.words.proofs.Cases.{turned, and-right, both-of}
 use Rattle.words.proofs.FieldBounds.{field-lt, dest-lt}
 use Rattle.words.proofs.RegisterRule.{stored}
-use Rattle.blocks.specs.Memory.{applied}
+use Rattle.steps.specs.declared.Operands.{Operands}
 use Rattle.steps.specs.declared.Effect.{Effect}
-use Rattle.steps.specs.Instructions.{effect, eint}
-use Rattle.steps.specs.Step.{Macro, operands, selected, performed, step}
+use Rattle.steps.specs.Instructions.{effect, eint-key}
+use Rattle.steps.specs.Step.{Macro, operands, selected, step-by, step}
 use Rattle.steps.specs.Programs.{next, instruction, entry, Legal, Does, Operates, on-registers, with-immediate, writable}
 
--- an effect on a state
-abbrev pub done : Effect → Macro → Macro
-done e s = record { machine = performed e (s .machine); memory = applied (e .store) (s .memory) }
+-- what the instruction at PC reads
+abbrev pub reads : Macro → Operands
+reads s = operands (instruction s) (s .machine)
 
--- the step of a state by the entry that it chooses
+-- what a step does
+abbrev pub what-it-does : Macro → Bool → Effect
+what-it-does s request = effect (entry s request) (s .memory) (reads s)
+
+-- the step of a state by an entry of the list
 abbrev pub by-entry : ℕ → Macro → Macro
-by-entry key s = done (effect key (s .memory) (operands (instruction s) (s .machine))) s
+by-entry key s = step-by key (reads s) (s .memory) (s .machine)
 
-pub taken : (s : Macro) (int : Bool) → next s int ≡ by-entry (entry s int) s
+pub by-its-entry : (s : Macro) (request : Bool) → next s request ≡ by-entry (entry s request) s
 unfolding step
-taken s int = refl
+by-its-entry s request = refl
 
-pub does : {key : ℕ} (s : Macro) (int : Bool) → Does key s int → next s int ≡ by-entry key s
-unfolding step selected
-does s int d = rw (d .undisturbed, d .chosen)
+-- the entry that a step takes: its opcode, or the interrupt step's where the request is up and ie is set
+takes : {key : ℕ} (s : Macro) (request : Bool) → Does key s request → entry s request ≡ key
+unfolding selected
+takes s request d = ap (λ (t : Bool). cond t eint-key (opcode (instruction s))) (d .undisturbed) ∙ d .chosen
 
--- a request that is up is taken where ie is set
-pub interrupts : (s : Macro) → s .machine .psw .ie ≡ true → next s true ≡ done (eint (operands (instruction s) (s .machine))) s
-unfolding step selected effect
-interrupts s on = rw on
+takes-the-interrupt : (s : Macro) → s .machine .psw .ie ≡ true → entry s true ≡ eint-key
+unfolding selected
+takes-the-interrupt s on = ap (λ (t : Bool). cond t eint-key (opcode (instruction s))) on
+
+pub does : {key : ℕ} (s : Macro) (request : Bool) → Does key s request → next s request ≡ by-entry key s
+does s request d = by-its-entry s request ∙ ap (λ (k : ℕ). by-entry k s) (takes s request d)
+
+pub interrupts : (s : Macro) → s .machine .psw .ie ≡ true → next s true ≡ by-entry eint-key s
+interrupts s on = by-its-entry s true ∙ ap (λ (k : ℕ). by-entry k s) (takes-the-interrupt s on)
 
 -- a writable register gets the value
 pub written : (s : Macro) (n value : ℕ) → writable s n ≡ true

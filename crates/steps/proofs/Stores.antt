@@ -11,10 +11,10 @@ use Rattle.blocks.specs.declared.memory.Store.the-variants.{Nothing, Word}
 use Rattle.blocks.specs.Memory.{address, store, applied}
 use Rattle.blocks.proofs.MemoryWords.{length-kept}
 use Rattle.steps.specs.declared.Effect.{Effect}
-use Rattle.steps.specs.Instructions.{jmp, rti, rtn, gpsw, ppsw, ld, shift, arithmetic, logic, noop, effect, eint-key}
-use Rattle.steps.specs.Step.{Macro, operands}
-use Rattle.steps.specs.Programs.{next, instruction, entry}
-use Rattle.steps.proofs.StepsTaken.{taken}
+use Rattle.steps.specs.Instructions.{jmp, rti, rtn, gpsw, ppsw, ld, shift, arithmetic, logic, noop, eint-key}
+use Rattle.steps.specs.Step.{Macro}
+use Rattle.steps.specs.Programs.{next, entry}
+use Rattle.steps.proofs.StepsTaken.{reads, what-it-does, by-its-entry}
 use Rattle.steps.proofs.EveryInstruction.{Kinds, every}
 
 -- two memories are alike but for one place at most
@@ -22,16 +22,13 @@ abbrev pub OnePlaceApart : List ℕ → List ℕ → Type 0
 OnePlaceApart mem after = (place : ℕ) × ((j : ℕ) → (j ≡ place → ⊥) → getD after j 0 ≡ getD mem j 0)
 
 module _ (s : Macro) (request : Bool) where
-  abbrev what-it-does : Effect
-  what-it-does = effect (entry s request) (s .memory) (operands (instruction s) (s .machine))
-
-  memory-after : next s request .memory ≡ applied (what-it-does .store) (s .memory)
-  memory-after = ap (λ (t : Macro). t .memory) (taken s request)
+  memory-after : next s request .memory ≡ applied (what-it-does s request .store) (s .memory)
+  memory-after = ap (λ (t : Macro). t .memory) (by-its-entry s request)
 
   -- There is one place such that every other word of memory is as before, and memory is as long as before.
   pub at-most-one-word : (OnePlaceApart (s .memory) (next s request .memory)) × (length (next s request .memory) ≡ length (s .memory))
   unfolding store
-  at-most-one-word = rw memory-after (by-store (what-it-does .store), length-kept (what-it-does .store) (s .memory))
+  at-most-one-word = rw memory-after (by-store (what-it-does s request .store), length-kept (what-it-does s request .store) (s .memory))
     where
       by-store : (st : Store) → OnePlaceApart (s .memory) (applied st (s .memory))
       by-store Nothing = (0, λ j other. refl)
@@ -44,13 +41,13 @@ module _ (s : Macro) (request : Bool) where
   only-five-store not-st not-sti not-call not-int not-interrupt =
       memory-after
       ∙ ap (λ (st : Store). applied st (s .memory))
-      (every (entry s request) (s .memory) (operands (instruction s) (s .machine)) (λ (e : Effect). e .store ≡ Nothing) nothing)
+      (every (entry s request) (s .memory) (reads s) (λ (e : Effect). e .store ≡ Nothing) nothing)
     where
       no-st : (entry s request ≡ 7) ⊎ (entry s request ≡ 15) → ⊥
       no-st (inl e) = not-st e
       no-st (inr e) = not-sti e
 
-      nothing : Kinds (entry s request) (s .memory) (operands (instruction s) (s .machine)) (λ (e : Effect). e .store ≡ Nothing)
+      nothing : Kinds (entry s request) (s .memory) (reads s) (λ (e : Effect). e .store ≡ Nothing)
       nothing =
           record {
             jmp-kind = refl;

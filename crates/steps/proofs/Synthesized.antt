@@ -105,11 +105,14 @@ module _ (s : Macro) (request : Bool) (legal : Legal s) where
   pub decrement : Does 26 s request → srca (instruction s) ≡ own → imm (instruction s) ≡ 1 → writable s own ≡ true
       → next s request ≡ on-with s own ((old + (2 ^ 32 - 1)) % 2 ^ 32) (zcnv (s .machine .psw) (sub-without-carry old 1))
   unfolding subtracted
-  decrement d same one free = sub-puts s request (with-immediate d) ∙ rw (same, one, written s own (difference old 1 false) free, one-less old)
+  decrement d same one free =
+      sub-puts s request (with-immediate d) ∙ rw (same, one, written s own (difference old 1 false) free, one-less old)
 
-  -- complement s, SUB R[s] R[0] R[s]: 2 ^ 32 - R[s], that is minus R[s] as a signed number; the bitwise complement is BNOT
+  -- complement s, SUB R[s] R[0] R[s]: minus R[s], the word that added to R[s] gives 0 (2 ^ 31 stays, with v set);
+  -- the bitwise complement is BNOT
   pub negate : Does 18 s request → srca (instruction s) ≡ 0 → srcb (instruction s) ≡ own → writable s own ≡ true
       → next s request ≡ on-with s own ((2 ^ 32 - old) % 2 ^ 32) (zcnv (s .machine .psw) (sub-without-carry 0 old))
   unfolding subtracted
   negate d zero same free =
-      sub-puts s request (on-registers d) ∙ rw (zero, legal .zero, same, written s own (difference 0 old false) free, minus old (legal .words own))
+      sub-puts s request (on-registers d)
+      ∙ rw (zero, legal .zero, same, written s own (difference 0 old false) free, minus old (legal .words own))

@@ -1,5 +1,6 @@
--- NUMBERS OF TWO WORDS, the low word first. ADD or ADDI of the low words, and ADDC or ADDCI behind it of the high words, add two numbers of 64 bits. SUB
--- and SUBC do not subtract them: SUB leaves c set where nothing was borrowed, and SUBC takes c itself off. SUB, and ADDC behind it with the
+-- NUMBERS OF TWO WORDS, the low word first, each operand as its instruction finds it: a high word should not stand in the low
+-- destination. ADD or ADDI of the low words, and ADDC or ADDCI behind it of the high words, add two numbers of 64 bits. SUB and SUBC do
+-- not subtract them: SUB leaves c set where nothing was borrowed, and SUBC takes c itself off. SUB, and ADDC behind it with the
 -- complement of the high word, do.
 use Prim.Native.Nat.{ℕ, _+_, _-_, _*_, _%_, _^_, _<_}
 use native.Mathlib.Omega.{arith}
@@ -30,7 +31,7 @@ two low high = low + high * 2 ^ 32
 pub record Halves (s : Macro) (request : Bool) : Type 0 where
   pub low-free : writable s (dest (instruction s)) ≡ true
   pub high-free : writable s (dest (instruction (next s request))) ≡ true
-  pub apart : dest (instruction s) ≡ dest (instruction (next s request)) → ⊥
+  pub differ : dest (instruction s) ≡ dest (instruction (next s request)) → ⊥
 
 -- what the two destinations hold after both
 abbrev pub result : Macro → Bool → Bool → ℕ
@@ -83,7 +84,7 @@ module _ (s : Macro) (request later : Bool) (legal : Legal s) (halves : Halves s
   low-stays : holds (next (next s request) later) (dest low-word) ≡ holds (next s request) (dest low-word)
   low-stays =
       ap (λ (t : Macro). holds t (dest low-word)) (addc-puts (next s request) later high)
-      ∙ untouched (next s request) (dest high-word) _ (dest low-word) still-free (halves .apart)
+      ∙ untouched (next s request) (dest high-word) _ (dest low-word) still-free (halves .differ)
 
   high-value : holds (next (next s request) later) (dest high-word) ≡ sum c d (out .flags .c)
   unfolding added
@@ -108,7 +109,8 @@ module _ (s : Macro) (request later : Bool) (legal : Legal s) (halves : Halves s
       both-values s request later legal halves (add-without-carry a b) (add-puts s request low) high
       ∙ long-sum a b c d (lows .0) (lows .1) (highs .0) (highs .1)
 
-  -- SUB or SUBI of a and b, and ADDC behind it of c and the complement of d, that is BNOT's: the difference of the two numbers, modulo 2 ^ 64
+  -- SUB or SUBI of a and b, and ADDC behind it of c and the complement of d, that is BNOT's: the difference of the two numbers, modulo 2
+  -- ^ 64
   pub long-subtraction : d < 2 ^ 32 → Operates 18 26 s request a b → Operates 17 25 (next s request) later c (bnot d)
       → (result s request later + two b d) % 2 ^ 64 ≡ two a c
   unfolding subtracted
@@ -118,8 +120,8 @@ module _ (s : Macro) (request later : Bool) (legal : Legal s) (halves : Halves s
       ap (λ (n : ℕ). (n + two b d) % 2 ^ 64) (both-values s request later legal halves (sub-without-carry a b) (sub-puts s request low) high)
       ∙ long-difference a b c d (lows .0) (lows .1) (highs .0) word
 
--- SUB, and SUBC behind it, would give the difference if this held. It fails already for 0 - 0: SUB R12 R8 R9 borrows nothing and sets c, and
--- SUBC R13 R10 R11 takes it off.
+-- SUB, and SUBC behind it, would give the difference if this held. It fails already for 0 - 0: SUB R12 R8 R9 borrows nothing and sets c,
+-- and SUBC R13 R10 R11 takes it off.
 abbrev pub SubtractsLong : Type 0
 SubtractsLong = (s : Macro) (request later : Bool) → Legal s → Halves s request → (a b c d : ℕ) → Operates 18 26 s request a b
     → Operates 19 27 (next s request) later c d → (result s request later + two b d) % 2 ^ 64 ≡ two a c
@@ -139,6 +141,6 @@ sub-then-subc-fails claim =
     let legal = legal-example sub-12-8-9 subc-13-10-11 0 (omega arith) (omega arith) (omega arith) in
     let low : Does 18 zeros-taken-off false = record { undisturbed = refl; chosen = refl } in
     let high : Does 19 (next zeros-taken-off false) false = record { undisturbed = refl; chosen = refl } in
-    let halves : Halves zeros-taken-off false = record { low-free = refl; high-free = refl; apart = λ e. omega arith } in
+    let halves : Halves zeros-taken-off false = record { low-free = refl; high-free = refl; differ = λ e. omega arith } in
     let e : 2 ^ 64 - 2 ^ 32 ≡ 0 = claim zeros-taken-off false false legal halves 0 0 0 0 (on-registers low) (on-registers high) in
     omega arith

@@ -8,23 +8,20 @@ use lib.ListN.{getD}
 use lib.Seq.{getD-set-other}
 use Rattle.words.specs.Registers.{register, ssp-reg, is-sup-reg, update-reg}
 use Rattle.words.proofs.RegisterRule.{seven-kept}
-use Rattle.steps.specs.declared.Operands.{Operands}
 use Rattle.steps.specs.declared.Effect.{Effect}
-use Rattle.steps.specs.Effects.{inc}
+use Rattle.blocks.specs.Memory.{fetch}
+use Rattle.steps.specs.Effects.{inc, dec, mode}
 use Rattle.steps.specs.Instructions.{jmp, call, interrupted, rti, rtn, gpsw, ppsw, ld, st, shift, arithmetic, logic, noop, effect, eint-key}
-use Rattle.steps.specs.Step.{Macro, operands}
-use Rattle.steps.specs.Programs.{next, instruction, entry, holds, Does, moved-to}
-use Rattle.steps.proofs.StepsTaken.{by-entry, taken, does}
+use Rattle.steps.specs.Step.{Macro}
+use Rattle.steps.specs.Programs.{next, entry, holds, Does, moved-to}
+use Rattle.steps.proofs.StepsTaken.{reads, what-it-does, by-entry, by-its-entry, does}
 use Rattle.steps.proofs.EveryInstruction.{Kinds, every}
 
 -- Let a step in user mode be neither INT nor the interrupt step.
 module _ (s : Macro) (request : Bool) (user : s .machine .psw .sm ≡ false)
     (not-int : entry s request ≡ 2 → ⊥) (not-interrupt : entry s request ≡ eint-key → ⊥) where
-  abbrev reads : Operands
-  reads = operands (instruction s) (s .machine)
-
   -- it writes its register as a user, and leaves sm clear
-  as-a-user : Kinds (entry s request) (s .memory) reads (λ (e : Effect). (e .sm ≡ false) × (e .psw .sm ≡ false))
+  as-a-user : Kinds (entry s request) (s .memory) (reads s) (λ (e : Effect). (e .sm ≡ false) × (e .psw .sm ≡ false))
   unfolding jmp call rti rtn gpsw ppsw ld st shift arithmetic logic noop
   as-a-user =
       record {
@@ -44,25 +41,25 @@ module _ (s : Macro) (request : Bool) (user : s .machine .psw .sm ≡ false)
         noop-kind = (user, user);
       }
 
-  writes : (effect (entry s request) (s .memory) reads .sm ≡ false) × (effect (entry s request) (s .memory) reads .psw .sm ≡ false)
-  writes = every (entry s request) (s .memory) reads (λ (e : Effect). (e .sm ≡ false) × (e .psw .sm ≡ false)) as-a-user
+  writes : (what-it-does s request .sm ≡ false) × (what-it-does s request .psw .sm ≡ false)
+  writes = every (entry s request) (s .memory) (reads s) (λ (e : Effect). (e .sm ≡ false) × (e .psw .sm ≡ false)) as-a-user
 
   -- it changes none of the registers 1 to 7
   pub seven-registers-kept : (n : ℕ) → 1 ≤ n → n ≤ 7 → holds (next s request) n ≡ holds s n
   seven-registers-kept n h k =
-      let e = effect (entry s request) (s .memory) reads in
-      ap (λ (t : Macro). holds t n) (taken s request)
+      let e = what-it-does s request in
+      ap (λ (t : Macro). holds t n) (by-its-entry s request)
       ∙ rw (writes .0) (seven-kept (e .register) (s .machine .registers) (e .value) n h k)
 
   -- .. and stays in user mode
   pub user-mode-kept : next s request .machine .psw .sm ≡ false
-  user-mode-kept = ap (λ (t : Macro). t .machine .psw .sm) (taken s request) ∙ writes .1
+  user-mode-kept = ap (λ (t : Macro). t .machine .psw .sm) (by-its-entry s request) ∙ writes .1
 
 -- INT and the interrupt step, in either mode, change of all registers SSP alone.
 pub only-ssp-moves : (s : Macro) (request : Bool) → (entry s request ≡ 2) ⊎ (entry s request ≡ eint-key)
     → (n : ℕ) → (n ≡ ssp-reg → ⊥) → holds (next s request) n ≡ holds s n
 unfolding effect interrupted update-reg is-sup-reg
-only-ssp-moves s request way n other = ap (λ (t : Macro). holds t n) (taken s request) ∙ by-entry-of way
+only-ssp-moves s request way n other = ap (λ (t : Macro). holds t n) (by-its-entry s request) ∙ by-entry-of way
   where
     pushed : getD (update-reg true ssp-reg (s .machine .registers) (inc (holds s ssp-reg))) n 0 ≡ holds s n
     pushed = getD-set-other (s .machine .registers) ssp-reg n (inc (holds s ssp-reg)) 0 other
@@ -77,8 +74,17 @@ pub ppsw-moves-pc-alone : (s : Macro) (request : Bool) → Does 5 s request → 
 unfolding effect ppsw update-reg
 ppsw-moves-pc-alone s request d user = does s request d ∙ rw user
 
--- RTI in user mode leaves every register, SSP too: it writes SSP under the sm that it found.
+-- RTI in user mode leaves every register, SSP too: it writes SSP under the sm that it found. PC and PSW change all the same.
 pub rti-leaves-ssp : (s : Macro) (request : Bool) → Does 3 s request → s .machine .psw .sm ≡ false
-    → next s request .machine .registers ≡ s .machine .registers
+    → next s request
+    ≡ record {
+      machine = record {
+        registers = s .machine .registers;
+        psw = mode (s .machine .psw) false true;
+        pc = fetch (s .memory) (dec (holds s ssp-reg));
+        ivec = s .machine .ivec;
+      };
+      memory = s .memory;
+    }
 unfolding effect rti update-reg is-sup-reg
-rti-leaves-ssp s request d user = ap (λ (t : Macro). t .machine .registers) (does s request d) ∙ rw user
+rti-leaves-ssp s request d user = does s request d ∙ rw user

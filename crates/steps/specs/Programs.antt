@@ -9,13 +9,15 @@ use lib.ListN.{length, getD}
 use Rattle.words.specs.Fields.{opcode, srca, srcb, imm}
 use Rattle.words.specs.Lengths.{legal-length}
 use Rattle.words.specs.Registers.{register, is-sup-reg}
+use Rattle.status.specs.declared.psw.Psw.{Psw}
 use Rattle.blocks.specs.Memory.{address, fetch}
 use Rattle.steps.specs.declared.MacroMachine.{MacroMachine}
+use Rattle.steps.specs.Effects.{add}
 use Rattle.steps.specs.Step.{Macro, selected, step}
 
 -- one step on, with the request up or not
 abbrev pub next : Macro → Bool → Macro
-next s int = step (s .memory) (s .machine) int
+next s request = step (s .memory) (s .machine) request
 
 -- the instruction word at PC
 abbrev pub instruction : Macro → ℕ
@@ -31,16 +33,17 @@ pub record Legal (s : Macro) : Type 0 where
   pub zero : holds s 0 ≡ 0
   pub words : (n : ℕ) → holds s n < 2 ^ 32
   pub pc : s .machine .pc < 2 ^ 32
+  pub ivec : s .machine .ivec < 2 ^ 32
   pub size : legal-length (length (s .memory)) ≡ true
   pub memory : (place : ℕ) → getD (s .memory) place 0 < 2 ^ 32
 
 -- the entry of the list that the step takes: an opcode, or the interrupt step's
 abbrev pub entry : Macro → Bool → ℕ
-entry s int = selected int (s .machine .psw) (instruction s)
+entry s request = selected request (s .machine .psw) (instruction s)
 
 -- the step does the instruction with this opcode: no interrupt is taken, and the word at PC has the opcode
-pub record Does (key : ℕ) (s : Macro) (int : Bool) : Type 0 where
-  pub undisturbed : (int && s .machine .psw .ie) ≡ false
+pub record Does (key : ℕ) (s : Macro) (request : Bool) : Type 0 where
+  pub undisturbed : (request && s .machine .psw .ie) ≡ false
   pub chosen : opcode (instruction s) ≡ key
 
 -- the step does an instruction that has two forms, the first opcode with R[a] and R[b] for operands and the second with R[a] and the
@@ -52,6 +55,14 @@ pub data Operates (plain immediate : ℕ) (s : Macro) (request : Bool) : ℕ →
 -- an instruction can change register n: it is not 0, and not one of the supervisor's seven in user mode
 abbrev pub writable : Macro → ℕ → Bool
 writable s n = not (eqb n 0) && not (is-sup-reg n && not (s .machine .psw .sm))
+
+-- where JMP and CALL go: R[a] + imm
+abbrev pub target : Macro → ℕ
+target s = add (holds s (srca (instruction s))) (imm (instruction s))
+
+-- a PSW with every bit clear: user mode, interrupts off
+abbrev pub clear-psw : Psw
+clear-psw = record { sm = false; ie = false; v = false; n = false; c = false; z = false }
 
 -- a machine with another PC, the rest as it is
 abbrev pub moved-to : ℕ → MacroMachine → MacroMachine

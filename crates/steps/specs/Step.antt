@@ -46,11 +46,15 @@ pub record Macro : Type 0 where
   pub machine : MacroMachine
   pub memory : List ℕ
 
+-- a step by the entry of the list that is taken, and what it reads
+abbrev pub step-by : ℕ → Operands → List ℕ → MacroMachine → Macro
+step-by key o mem m =
+    let e = effect key mem o in
+    record { machine = performed e m; memory = applied (e .store) mem }
+
 -- a step on an instruction word, wherever that stands
 abbrev pub step-on : ℕ → List ℕ → MacroMachine → Bool → Macro
-step-on w mem m int =
-    let e = effect (selected int (m .psw) w) mem (operands w m) in
-    record { machine = performed e m; memory = applied (e .store) mem }
+step-on w mem m int = step-by (selected int (m .psw) w) (operands w m) mem m
 
 -- a step, on the word at PC
 unfoldable pub step : List ℕ → MacroMachine → Bool → Macro

@@ -1,4 +1,5 @@
--- BIT 31 of an instruction word, the opcode's top bit (p. 75), is ignored: a step on a word is the step on the word with bit 31 changed.
+-- BIT 31 of an instruction word, the opcode's top bit (p. 75), is ignored: a step on a word is the step on the word with bit 31
+-- changed. The word is taken as an instruction here; a program that loads it as data sees the bit.
 use Prim.Native.Nat.{ℕ, _/_, _%_, _^_}
 use mathlib.Core.Path.{_≡_, refl, ap, _∙_}
 use mathlib.Core.Bool.{Bool, cond, _&&_}
@@ -7,11 +8,10 @@ use lib.Bits.{bitXor, xor-shr, xor-mod, xor-zero-r}
 use Rattle.words.specs.Words.{field}
 use Rattle.words.specs.Fields.{opcode, dest, srca, srcb, imm}
 use Rattle.status.specs.declared.psw.Psw.{Psw}
-use Rattle.blocks.specs.Memory.{applied}
 use Rattle.steps.specs.declared.MacroMachine.{MacroMachine}
 use Rattle.steps.specs.declared.Operands.{Operands}
-use Rattle.steps.specs.Instructions.{effect, eint-key}
-use Rattle.steps.specs.Step.{Macro, operands, selected, performed, step-on}
+use Rattle.steps.specs.Instructions.{eint-key}
+use Rattle.steps.specs.Step.{operands, selected, step-by, step-on}
 
 -- the word with bit 31 changed
 abbrev pub turned-over : ℕ → ℕ
@@ -34,8 +34,5 @@ same-operands w m = rw (unseen w 21 5 refl, unseen w 16 5 refl, unseen w 11 5 re
 pub top-bit-ignored : (w : ℕ) (mem : List ℕ) (m : MacroMachine) (request : Bool)
     → step-on (turned-over w) mem m request ≡ step-on w mem m request
 top-bit-ignored w mem m request =
-    ap (λ (key : ℕ). by-choice key (operands (turned-over w) m)) (same-choice w request (m .psw))
-    ∙ ap (λ (o : Operands). by-choice (selected request (m .psw) w) o) (same-operands w m)
-  where
-    by-choice : ℕ → Operands → Macro
-    by-choice key o = let e = effect key mem o in record { machine = performed e m; memory = applied (e .store) mem }
+    ap (λ (key : ℕ). step-by key (operands (turned-over w) m) mem m) (same-choice w request (m .psw))
+    ∙ ap (λ (o : Operands). step-by (selected request (m .psw) w) o mem m) (same-operands w m)
