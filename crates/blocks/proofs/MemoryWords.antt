@@ -1,10 +1,10 @@
 -- Memory: without words there is nothing to fetch or to store; a store keeps the length, changes at most its own word, and is read back.
-use Prim.Native.Nat.{ℕ, _<_}
+use Prim.Native.Nat.{ℕ, _%_, _<_}
 use native.Mathlib.Nat.{mod-lt}
-use mathlib.Core.Path.{_≡_, refl}
+use mathlib.Core.Path.{_≡_, refl, ap, _∙_}
 use mathlib.Core.List.{List, [], _∷_}
 use native.Mathlib.Omega.{arith}
-use lib.ListN.{length, length-set}
+use lib.ListN.{length, getD, length-set}
 use lib.Seq.{getD-set-same, getD-set-other}
 use Rattle.blocks.specs.declared.memory.Store.{Store}
 use Rattle.blocks.specs.declared.memory.Store.the-variants.{Nothing, Word}
@@ -28,7 +28,9 @@ length-kept (Word a word) mem = length-set mem (address mem a) word
 
 pub read-alike : (mem : List ℕ) (a b word : ℕ) → 0 < length mem → address mem b ≡ address mem a → fetch (store mem a word) b ≡ word
 unfolding fetch store
-read-alike mem a b word some same = rw (length-set, same) (getD-set-same mem (address mem a) word 0 (mod-lt a some))
+read-alike mem a b word some same =
+    ap (λ (place : ℕ). getD (store mem a word) place 0) (ap (λ (n : ℕ). b % n) (length-set mem (address mem a) word) ∙ same)
+    ∙ getD-set-same mem (address mem a) word 0 (mod-lt a some)
 
 pub read-back : (mem : List ℕ) (a word : ℕ) → 0 < length mem → fetch (store mem a word) a ≡ word
 read-back mem a word some = read-alike mem a a word some refl

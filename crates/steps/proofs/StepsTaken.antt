@@ -41,7 +41,7 @@ by-its-entry s request = refl
 -- the entry that a step takes: its opcode, or the interrupt step's where the request is up and ie is set
 takes : {key : ℕ} (s : Macro) (request : Bool) → Does key s request → entry s request ≡ key
 unfolding selected
-takes s request d = ap (λ (t : Bool). cond t eint-key (opcode (instruction s))) (d .undisturbed) ∙ d .chosen
+takes {key} s request d = ap (λ (t : Bool). cond t eint-key (opcode (instruction s))) (d .undisturbed) ∙ d .chosen
 
 takes-the-interrupt : (s : Macro) → s .machine .psw .ie ≡ true → entry s true ≡ eint-key
 unfolding selected
