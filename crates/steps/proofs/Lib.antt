@@ -10,7 +10,7 @@ pub mod SumSteps
 pub mod EveryInstruction
 pub mod ExampleStates
 -- laws of the instruction set, for those who program it (docs/INSTRUCTIONS.md)
-pub mod TopBit
+pub mod BitThirtyOne
 pub mod LegalStates
 pub mod RegisterZero
 pub mod Throughout

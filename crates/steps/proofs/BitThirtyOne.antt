@@ -7,7 +7,6 @@ use mathlib.Core.List.{List}
 use lib.Bits.{bitXor, xor-shr, xor-mod, xor-zero-r}
 use Rattle.words.specs.Words.{field}
 use Rattle.words.specs.Fields.{opcode, dest, srca, srcb, imm}
-use Rattle.status.specs.declared.psw.Psw.{Psw}
 use Rattle.steps.specs.declared.MacroMachine.{MacroMachine}
 use Rattle.steps.specs.declared.Operands.{Operands}
 use Rattle.steps.specs.Instructions.{eint-key}
@@ -22,17 +21,14 @@ unseen : (w low size : ℕ) → 2 ^ 31 / 2 ^ low % 2 ^ size ≡ 0 → field (tur
 unfolding field
 unseen w low size e = rw (xor-shr w (2 ^ 31) low, xor-mod (w / 2 ^ low) (2 ^ 31 / 2 ^ low) size, e, xor-zero-r)
 
--- so the choice is the same, and what the instruction reads
-same-choice : (w : ℕ) (request : Bool) (p : Psw) → selected request p (turned-over w) ≡ selected request p w
-unfolding selected opcode
-same-choice w request p = ap (λ (key : ℕ). cond (request && p .ie) eint-key key) (unseen w 26 5 refl)
-
+-- so what the instruction reads is the same
 same-operands : (w : ℕ) (m : MacroMachine) → operands (turned-over w) m ≡ operands w m
 unfolding dest srca srcb imm
 same-operands w m = rw (unseen w 21 5 refl, unseen w 16 5 refl, unseen w 11 5 refl, unseen w 0 16 refl)
 
 pub top-bit-ignored : (w : ℕ) (mem : List ℕ) (m : MacroMachine) (request : Bool)
     → step-on (turned-over w) mem m request ≡ step-on w mem m request
+unfolding selected opcode
 top-bit-ignored w mem m request =
-    ap (λ (key : ℕ). step-by key (operands (turned-over w) m) mem m) (same-choice w request (m .psw))
+    ap (λ (key : ℕ). step-by (cond (request && m .psw .ie) eint-key key) (operands (turned-over w) m) mem m) (unseen w 26 5 refl)
     ∙ ap (λ (o : Operands). step-by (selected request (m .psw) w) o mem m) (same-operands w m)
