@@ -5,7 +5,7 @@ use mathlib.Core.List.{List}
 use lib.Dec.{eqb}
 use Rattle.words.specs.Fields.{dest, srca, srcb, imm}
 use Rattle.words.specs.Registers.{register, ssp-reg}
-use Rattle.microwords.specs.Codes.{from-reg-file, from-reg-dest, from-ssp, from-psw, from-c255, from-reg-file-b, from-ivec}
+use Rattle.control_store.specs.Codes.{from-reg-file, from-reg-dest, from-ssp, from-psw, from-c255, from-reg-file-b, from-ivec}
 
 -- the register of source A, the destination register, SSP, the PSW's word, the constant 255, PC
 unfoldable pub a-source : ℕ → ℕ → ℕ → ℕ → ℕ → ℕ → ℕ

@@ -1,3 +1,3 @@
 -- Theorems over the definitions of specs/, a file each; the proofs of the functions stand in their folders.
-pub mod OneCheckFits
-pub mod ImageCalls
+pub mod ElementwiseCopy
+pub mod Fitting

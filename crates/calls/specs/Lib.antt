@@ -1,3 +1,3 @@
--- What the C calls answer that need no machine.
-pub mod Checks
-pub mod Images
+-- What a C call answers; what it is lent as a list, and what it leaves.
+pub mod Answers
+pub mod Lending

@@ -1,54 +1,103 @@
-// The C calls that need no machine: the check of a microprogram, and images read and written. Apart
-// from the grader, which exports them, so that checking them is quick.
+// What a C call answers, and the registers that it is lent as a list: the two tests that come before
+// all others, and the way in and out. Every function is total; specs/ says what each answers.
 ghost use mathlib.Core.Path.{_≡_};
-ghost use Rattle.images.specs.Reading.{memory-after};
-ghost use Rattle.images.specs.Writing.{room-after};
-ghost use Rattle.calls.specs.Checks.{CheckAnswer};
-ghost use Rattle.calls.specs.Images.{avm-read, avm-write};
+ghost use lib.ListN.{length};
+ghost use Rattle.calls.specs.Answers.{refused, answered};
+ghost use Rattle.calls.specs.Lending.{first-test, taken, given};
+use answers::End;
 use answers::Microcycles;
 use answers::Steps;
-use lending::Answer;
-use lending::answer_of;
 
-// Checks a microprogram without running it.
-pub fn check(program: &[u64]) -> Answer
-    ensures { λ r. ⌜ CheckAnswer (now (program .entry)) r ⌝ }
-{
-    let checked = checker::check(program);
-    let end = checked.end;
-    let longest = checked.longest;
-    let none = Steps { count: 0 };
-    answer_of(end, longest, none)
+// avm_answer of the header.
+#[repr(C)]
+pub struct Answer {
+    pub number: u64,
+    pub at: u64,
+    pub microcycles: Microcycles,
+    pub steps: Steps,
 }
 
-// Reads an image into memory.
-pub fn read(memory: &mut [u32], text: &[u8]) -> Answer
-    ensures { λ r. ⌜ (r ≡ avm-read (now (memory .entry)) (now (text .entry)))
-        × (now (memory .exit) ≡ memory-after (now (memory .entry)) (now (text .entry))) ⌝ }
+// A refusal that has nothing with it.
+pub fn refuse(number: u64) -> Answer
+    ensures { λ r. ⌜ r ≡ refused number ⌝ }
 {
-    let end = image_reader::read(memory, text);
     let microcycles = Microcycles { count: 0 };
     let steps = Steps { count: 0 };
-    answer_of(end, microcycles, steps)
-}
-
-// Writes memory's image into the room.
-pub fn write(memory: &[u32], room: &mut [u8]) -> Answer
-    ensures { λ r. ⌜ (r ≡ avm-write (now (memory .entry)) (now (room .entry)))
-        × (now (room .exit) ≡ room-after (now (memory .entry)) (now (room .entry))) ⌝ }
-{
-    let written = image_writer::write(memory, room);
-    let end = written.end;
-    let bytes = written.bytes;
-    let microcycles = Microcycles { count: 0 };
-    let steps = Steps { count: 0 };
-    if !answers::done(end) {
-        return answer_of(end, microcycles, steps);
-    }
     Answer {
-        number: 0,
-        at: bytes as u64,
+        number: number,
+        at: 0,
         microcycles: microcycles,
         steps: steps,
+    }
+}
+
+// An end by its number, with the two clocks.
+pub fn answer_of(end: End, microcycles: Microcycles, steps: Steps) -> Answer
+    ensures { λ r. ⌜ r ≡ answered end microcycles steps ⌝ }
+{
+    let shown = answers::shown(end);
+    let number = shown.number;
+    let at = shown.at;
+    Answer {
+        number: number,
+        at: at,
+        microcycles: microcycles,
+        steps: steps,
+    }
+}
+
+// The number of the first test that fails, 0 where none does.
+pub fn test(words: usize, count: usize) -> u64
+    ensures { λ r. ⌜ r ≡ first-test words count ⌝ }
+{
+    if !words::lengths::legal(words) {
+        return 1;
+    }
+    if count != 32 {
+        return 2;
+    }
+    0
+}
+
+fn copy_from(from: &[u32]) -> [u32; 32]
+    requires { ⌜ length (now from) ≡ 32 ⌝ }
+    ensures { λ r. ⌜ r ≡ now (from .entry) ⌝ }
+{
+    let mut registers = [0u32; 32];
+    let mut k: usize = 0;
+    while k < 32 {
+        registers[k] = from[k];
+        k += 1;
+    }
+    registers
+}
+
+fn copy_to(to: &mut [u32], registers: [u32; 32])
+    requires { ⌜ length (now to) ≡ 32 ⌝ }
+    ensures { λ _. ⌜ now (to .exit) ≡ registers ⌝ }
+{
+    let mut k: usize = 0;
+    while k < 32 {
+        to[k] = registers[k];
+        k += 1;
+    }
+}
+
+// The registers as a value.
+pub fn take(from: &[u32]) -> [u32; 32]
+    ensures { λ r. ⌜ r ≡ taken (now (from .entry)) ⌝ }
+{
+    if from.len() != 32 {
+        return [0u32; 32];
+    }
+    copy_from(from)
+}
+
+// The registers back to where they were lent.
+pub fn give(to: &mut [u32], registers: [u32; 32])
+    ensures { λ _. ⌜ now (to .exit) ≡ given registers (now (to .entry)) ⌝ }
+{
+    if to.len() == 32 {
+        copy_to(to, registers);
     }
 }

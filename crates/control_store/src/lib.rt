@@ -1,10 +1,14 @@
-// A lent control store: the word at an address, and the test of all. Every function is total;
-// microwords says what each answers.
+// The control store: a microword's 24 fields, which words are legal, where the sequencer goes, and a
+// caller's microprogram, the word at an address and the test of all. Every function is total; specs/
+// says what each answers.
 ghost use mathlib.Core.Path.{_≡_};
 ghost use Rattle.answers.specs.Places.{first-place};
-ghost use Rattle.microwords.specs.ControlStore.{word-at, illegal, store-test};
+ghost use Rattle.control_store.specs.ControlStore.{word-at, illegal, store-test};
+use crate::microword::legal;
 use answers::End;
-use microwords::microword::legal;
+
+pub mod microword;
+pub mod sequencer;
 
 // The most words that a 6-bit counter can name.
 pub const MOST_MICROWORDS: usize = 64;

@@ -10,12 +10,12 @@ use lib.ListN.{set}
 use borrow.Author.Tests.{ne-eqb}
 use Rattle.words.specs.Registers.{update-reg, is-sup-reg, ssp-reg}
 use Rattle.words.proofs.RegisterRule.{zero-register}
-use Rattle.microwords.specs.declared.microword.Microword.{Microword}
+use Rattle.control_store.specs.declared.microword.Microword.{Microword}
 use Rattle.alu.specs.declared.AluOutput.{AluOutput}
 use Rattle.status.specs.declared.psw.Psw.{Psw}
 use Rattle.status.specs.Psw.{clocked, next-psw}
 use Rattle.status.specs.Jump.{jump-cond}
-use Rattle.microwords.specs.Codes.{to-reg-file, to-ssp, to-psw, to-pc, to-pcj}
+use Rattle.control_store.specs.Codes.{to-reg-file, to-ssp, to-psw, to-pc, to-pcj}
 use Rattle.blocks.specs.declared.memory.Store.the-variants.{Nothing, Word}
 use Rattle.blocks.specs.Memory.{fetch}
 use Rattle.datapath.specs.Results.{quiet, target-register, written-register, new-psw, new-reg, new-pc, new-mbr, new-store}

@@ -5,7 +5,7 @@ use mathlib.Core.Bool.{Bool, cond}
 use Rattle.words.specs.Shifter.{shifter}
 use Rattle.alu.specs.declared.AluOutput.{AluOutput}
 use Rattle.alu.specs.Alu.{alu}
-use Rattle.microwords.specs.declared.microword.Microword.{Microword}
+use Rattle.control_store.specs.declared.microword.Microword.{Microword}
 
 -- the ALU's A input: MBR or the A latch
 abbrev pub a-input : Microword → ℕ → ℕ → ℕ

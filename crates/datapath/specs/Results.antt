@@ -12,9 +12,9 @@ use Rattle.status.specs.declared.psw.Psw.{Psw}
 use Rattle.status.specs.declared.psw.PswLines.{PswLines}
 use Rattle.status.specs.Psw.{next-psw}
 use Rattle.status.specs.Jump.{jump-cond}
-use Rattle.microwords.specs.declared.microword.Microword.{Microword}
-use Rattle.microwords.specs.Codes.{to-reg-file, to-ssp, to-psw, to-ir, to-pc, to-pcj}
-use Rattle.microwords.specs.Sequencer.{mpc-unit}
+use Rattle.control_store.specs.declared.microword.Microword.{Microword}
+use Rattle.control_store.specs.Codes.{to-reg-file, to-ssp, to-psw, to-ir, to-pc, to-pcj}
+use Rattle.control_store.specs.Sequencer.{mpc-unit}
 use Rattle.blocks.specs.declared.memory.Store.{Store}
 use Rattle.blocks.specs.declared.memory.Store.the-variants.{Nothing, Word}
 use Rattle.datapath.specs.declared.results.SystemRegisters.{SystemRegisters}

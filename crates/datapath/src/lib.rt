@@ -1,3 +1,4 @@
-// Where a microword makes a result go. Every function is total; specs/ says what each answers, and what
-// the ALU and the shifter give, which the crate operation does.
+// What a microword makes the datapath do: the result with its flags, and where it goes. Every function
+// is total; specs/ says what each answers.
+pub mod operation;
 pub mod results;

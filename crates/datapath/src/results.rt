@@ -4,7 +4,7 @@ ghost use Rattle.datapath.specs.Results.{target-register, written-regist
 ghost use Rattle.datapath.specs.Results.{new-reg, new-pc, new-mbr, new-system, new-store};
 use blocks::choice::choose;
 use blocks::memory::Store;
-use microwords::microword::Microword;
+use control_store::microword::Microword;
 use status::psw::Psw;
 
 // The register that a target names; register 0, which is never written, where it names none.

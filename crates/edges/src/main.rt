@@ -3,7 +3,7 @@
 // decision is shown as 0 or 1; an ALU output as its value in hexadecimal and then v, n, c, z.
 use alu::AluOutput;
 use alu::Flags;
-use images::Line;
+use image_meaning::Line;
 use libc::STDOUT_FILENO;
 use status::psw::Change;
 use status::psw::Psw;
@@ -128,7 +128,7 @@ fn sums() {
 // The sum of a record modulo 256.
 fn record_sum(text: &[u8], line: &[u8]) {
     label(text);
-    match records::record(line) {
+    match image_records::record(line) {
         Line::NoRecord => label(b" no record"),
         Line::Record {
             count: _,

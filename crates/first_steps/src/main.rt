@@ -4,7 +4,7 @@
 use blocks::memory::load;
 use libc::STDOUT_FILENO;
 use macro_level::run::run;
-use steps::MacroState;
+use macro_meaning::MacroState;
 
 fn main() {
     let mut memory = [0u32; 16];

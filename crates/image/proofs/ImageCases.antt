@@ -9,8 +9,8 @@ use Rattle.words.proofs.Cases.{turned, upright}
 use Rattle.answers.specs.declared.End.{End}
 use Rattle.answers.specs.declared.End.the-variants.{TextLength}
 use Rattle.answers.specs.Ends.{is-done}
-use Rattle.images.specs.Reading.{read-answer, memory-after}
-use Rattle.images.specs.Writing.{room-after}
+use Rattle.image_meaning.specs.Reading.{read-answer, memory-after}
+use Rattle.image_meaning.specs.Writing.{room-after}
 use Rattle.image.specs.Image.{most-input, zeros, image-answer, image-room}
 
 module _ (text room : List ℕ) where

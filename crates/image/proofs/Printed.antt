@@ -9,10 +9,10 @@ use lib.ListN.{length}
 use lib.Seq.{take-all}
 use Rattle.words.specs.Lengths.{legal-length}
 use Rattle.answers.specs.declared.End.the-variants.{Done}
-use Rattle.images.specs.Reading.{memory-after}
-use Rattle.images.specs.Writing.{written-text, written-length, room-after}
-use Rattle.images.proofs.AsLent.{memory-keeps-its-length, room-keeps-its-length}
-use Rattle.images.proofs.ReadBack.{text-in-the-room}
+use Rattle.image_meaning.specs.Reading.{memory-after}
+use Rattle.image_meaning.specs.Writing.{written-text, written-length, room-after}
+use Rattle.image_meaning.proofs.AsLent.{memory-keeps-its-length, room-keeps-its-length}
+use Rattle.image_meaning.proofs.ReadBack.{text-in-the-room}
 use Rattle.image.specs.Image.{zeros, image-answer, image-room}
 
 sixteen : legal-length 16 ≡ true

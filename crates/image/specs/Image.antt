@@ -8,8 +8,8 @@ use lib.ListN.{length, replicate}
 use Rattle.answers.specs.declared.End.{End}
 use Rattle.answers.specs.declared.End.the-variants.{TextLength}
 use Rattle.answers.specs.Ends.{is-done}
-use Rattle.images.specs.Reading.{read-answer, memory-after}
-use Rattle.images.specs.Writing.{room-after}
+use Rattle.image_meaning.specs.Reading.{read-answer, memory-after}
+use Rattle.image_meaning.specs.Writing.{room-after}
 
 abbrev pub most-input : ℕ
 most-input = 65536

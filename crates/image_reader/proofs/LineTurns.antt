@@ -6,12 +6,12 @@ use mathlib.Core.Path.{_≡_, sym, ap, _∙_}
 use mathlib.Core.List.{List, foldl}
 use lib.ListN.{length, take, drop, set, drop-of-length-le}
 use lib.Seq.{sets, drop-drop}
-use Rattle.images.specs.declared.Reading.{Reading}
-use Rattle.images.specs.Digits.{word-of, words-of}
-use Rattle.images.specs.Lines.{lines-of}
-use Rattle.images.specs.Reading.{next, finish, read-lines, with-line}
-use Rattle.records.specs.Found.{line-length}
-use Rattle.records.proofs.FirstLine.{line-and-rest}
+use Rattle.image_meaning.specs.declared.Reading.{Reading}
+use Rattle.image_meaning.specs.Digits.{word-of, words-of}
+use Rattle.image_meaning.specs.Lines.{lines-of}
+use Rattle.image_meaning.specs.Reading.{next, finish, read-lines, with-line}
+use Rattle.image_records.specs.Found.{line-length}
+use Rattle.image_records.proofs.FirstLine.{line-and-rest}
 
 -- ---- lines
 

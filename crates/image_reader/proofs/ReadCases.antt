@@ -10,7 +10,7 @@ use Rattle.words.proofs.Cases.{turned, upright}
 use Rattle.answers.specs.declared.End.{End}
 use Rattle.answers.specs.declared.End.the-variants.{MemoryLength, TextLength}
 use Rattle.answers.specs.Ends.{is-done}
-use Rattle.images.specs.Reading.{most-text, judged, loaded, read-answer, memory-after}
+use Rattle.image_meaning.specs.Reading.{most-text, judged, loaded, read-answer, memory-after}
 
 module _ (memory text : List ℕ) where
   abbrev pub Left : End → List ℕ → Type 0

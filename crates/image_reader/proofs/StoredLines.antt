@@ -5,11 +5,11 @@ use mathlib.Core.Bool.{cond}
 use mathlib.Core.List.{List}
 use lib.Dec.{eqb}
 use borrow.Author.Tests.{eq-eqb, ne-eqb}
-use Rattle.placing.specs.Placing.{stored}
-use Rattle.images.specs.declared.Heading.{Heading}
-use Rattle.images.specs.Digits.{words-of}
-use Rattle.images.specs.Records.{heading-of, data-of}
-use Rattle.images.specs.Reading.{data-kind, with-line}
+use Rattle.image_placing.specs.Placing.{stored}
+use Rattle.image_meaning.specs.declared.Heading.{Heading}
+use Rattle.image_meaning.specs.Digits.{words-of}
+use Rattle.image_meaning.specs.Records.{heading-of, data-of}
+use Rattle.image_meaning.specs.Reading.{data-kind, with-line}
 
 module _ (memory line : List ℕ) {heading : Heading} (h : heading ≡ heading-of line) where
   by-heading : with-line memory line

@@ -6,12 +6,12 @@ use lib.Dec.{eqb}
 use borrow.Author.Tests.{eq-eqb, ne-eqb}
 use Rattle.words.proofs.Cases.{turned, upright}
 use Rattle.answers.specs.declared.End.the-variants.{LineSum, RecordType, Placement}
-use Rattle.placing.specs.Placing.{placing}
-use Rattle.images.specs.declared.Line.{Line}
-use Rattle.images.specs.declared.Line.the-variants.{Record}
-use Rattle.images.specs.declared.Reading.{Reading}
-use Rattle.images.specs.declared.Reading.the-variants.{Ended, Refused}
-use Rattle.images.specs.Reading.{data-kind, end-kind, data-read, tested}
+use Rattle.image_placing.specs.Placing.{placing}
+use Rattle.image_meaning.specs.declared.Line.{Line}
+use Rattle.image_meaning.specs.declared.Line.the-variants.{Record}
+use Rattle.image_meaning.specs.declared.Reading.{Reading}
+use Rattle.image_meaning.specs.declared.Reading.the-variants.{Ended, Refused}
+use Rattle.image_meaning.specs.Reading.{data-kind, end-kind, data-read, tested}
 
 module _ (m number end : ℕ) {said : Line} {count address kind sum : ℕ} (e : said ≡ Record count address kind sum) where
   pub sum-wrong : (sum ≡ 0 → ⊥) → tested m number end said ≡ Refused (LineSum number)

@@ -3,22 +3,22 @@
 ghost use mathlib.Core.Path.{_≡_};
 ghost use Prim.Native.Nat.{_+_};
 ghost use lib.Seq.{sets};
-ghost use Rattle.images.specs.Digits.{words-of};
-ghost use Rattle.images.specs.Records.{data-of};
-ghost use Rattle.images.specs.Reading.{data-read, tested, next, finish, judged, with-line, loaded, read-answer, memory-after};
-ghost use Rattle.placing.specs.Placing.{placing};
+ghost use Rattle.image_meaning.specs.Digits.{words-of};
+ghost use Rattle.image_meaning.specs.Records.{data-of};
+ghost use Rattle.image_meaning.specs.Reading.{data-read, tested, next, finish, judged, with-line, loaded, read-answer, memory-after};
+ghost use Rattle.image_placing.specs.Placing.{placing};
 use answers::End;
-use images::Line;
-use images::Reading;
-use placing::Placed;
-use records::line_end;
-use records::record;
+use image_meaning::Line;
+use image_meaning::Reading;
+use image_placing::Placed;
+use image_records::line_end;
+use image_records::record;
 
 // A data record's place, as line `number`.
 fn place_data(words: usize, number: usize, end: usize, address: u32, count: u16) -> Reading
     ensures { λ r. ⌜ r ≡ data-read (placing words end address count) number (address + count) ⌝ }
 {
-    match placing::place(words, end, address, count) {
+    match image_placing::place(words, end, address, count) {
         Placed::Fits => Reading::Open(address as usize + count as usize),
         Placed::Misplaced => Reading::Refused(End::Placement(number)),
         Placed::Early => Reading::Refused(End::RecordOrder(number)),
@@ -101,8 +101,8 @@ fn store_words(memory: &mut [u32], line: &[u8], first: u32, count: u16)
     let mut from: u32 = 9;
     let mut left = count;
     while 0 < left {
-        let word = records::word(line, from);
-        placing::store(memory, to, word);
+        let word = image_records::word(line, from);
+        image_placing::store(memory, to, word);
         to += 1;
         from += 8;
         left -= 1;
@@ -113,7 +113,7 @@ fn store_words(memory: &mut [u32], line: &[u8], first: u32, count: u16)
 fn store_line(memory: &mut [u32], line: &[u8])
     ensures { λ r. ⌜ now (memory .exit) ≡ with-line (now (memory .entry)) (now (line .entry)) ⌝ }
 {
-    let heading = records::heading(line);
+    let heading = image_records::heading(line);
     let kind = heading.kind;
     let address = heading.address;
     let count = heading.count;

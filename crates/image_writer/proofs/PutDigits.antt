@@ -6,7 +6,7 @@ use mathlib.Core.Path.{_≡_, sym, ap, _∙_}
 use mathlib.Core.List.{List, [], _∷_}
 use lib.ListN.{length, getD, drop, set, drop-of-length-le}
 use lib.Seq.{sets, drop-cons}
-use Rattle.images.specs.Digits.{digit, hex, sum-of}
+use Rattle.image_meaning.specs.Digits.{digit, hex, sum-of}
 
 pub two-put : (room : List ℕ) (at b : ℕ) {high low : ℕ} → b < 256 → high ≡ digit (b / 16 % 16) → low ≡ digit (b % 16) →
     set (set room at high) (at + 1) low ≡ sets room at (hex (b ∷ []))

@@ -7,11 +7,11 @@ use mathlib.Core.Path.{_≡_, refl, sym, ap, _∙_}
 use mathlib.Core.List.{List, [], _∷_, _++_}
 use lib.ListN.{length, getD, drop, set, drop-of-length-le, length-append}
 use lib.Seq.{sets, drop-cons}
-use Rattle.images.specs.Digits.{hex, sum-of}
-use Rattle.images.specs.Lines.{lf}
-use Rattle.images.specs.Records.{colon}
-use Rattle.images.specs.Writing.{checksum, line-of, data-bytes, end-line, text-from}
-use Rattle.images.proofs.WrittenDigits.{digits-length}
+use Rattle.image_meaning.specs.Digits.{hex, sum-of}
+use Rattle.image_meaning.specs.Lines.{lf}
+use Rattle.image_meaning.specs.Records.{colon}
+use Rattle.image_meaning.specs.Writing.{checksum, line-of, data-bytes, end-line, text-from}
+use Rattle.image_meaning.proofs.WrittenDigits.{digits-length}
 
 -- ---- one behind the other
 

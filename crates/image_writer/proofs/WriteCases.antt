@@ -10,8 +10,8 @@ use Rattle.words.specs.Lengths.{legal-length}
 use Rattle.words.proofs.Cases.{turned, upright}
 use Rattle.answers.specs.declared.End.the-variants.{MemoryLength, Room}
 use Rattle.answers.specs.Ends.{is-done}
-use Rattle.images.specs.declared.Written.{Written}
-use Rattle.images.specs.Writing.{written, written-text, written-length, write-answer, room-after}
+use Rattle.image_meaning.specs.declared.Written.{Written}
+use Rattle.image_meaning.specs.Writing.{written, written-text, written-length, write-answer, room-after}
 
 module _ (memory room : List ℕ) where
   abbrev pub Left : Written → List ℕ → Type 0

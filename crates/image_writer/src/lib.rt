@@ -4,10 +4,10 @@ ghost use Prim.Native.Nat.{_+_, _*_, _%_, _<_, _≤_};
 ghost use mathlib.Core.List.{[], _∷_};
 ghost use lib.ListN.{length, getD, set};
 ghost use lib.Seq.{sets};
-ghost use Rattle.images.specs.Digits.{digit, hex, sum-of};
-ghost use Rattle.images.specs.Writing.{line-of, data-bytes, written-text, written-length, write-answer, room-after};
+ghost use Rattle.image_meaning.specs.Digits.{digit, hex, sum-of};
+ghost use Rattle.image_meaning.specs.Writing.{line-of, data-bytes, written-text, written-length, write-answer, room-after};
 use answers::End;
-use images::Written;
+use image_meaning::Written;
 
 // The digit, upper case, of a value modulo 16.
 fn digit(v: u8) -> u8

@@ -1,13 +1,13 @@
 // A run: one step for each request byte.
 ghost use mathlib.Core.Path.{_≡_};
-ghost use Rattle.steps.specs.Machine.{taken, given};
-ghost use Rattle.steps.specs.Run.{macro-test, steps, run};
+ghost use Rattle.macro_meaning.specs.Machine.{taken, given};
+ghost use Rattle.macro_meaning.specs.Run.{macro-test, steps, run};
 use crate::step::step;
 use answers::End;
 use answers::Steps;
-use steps::MacroAnswer;
-use steps::MacroMachine;
-use steps::MacroState;
+use macro_meaning::MacroAnswer;
+use macro_meaning::MacroMachine;
+use macro_meaning::MacroState;
 
 // The PSW's other bits are dropped.
 fn take(s: MacroState) -> MacroMachine

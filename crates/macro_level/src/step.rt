@@ -1,14 +1,14 @@
 // One step: the interrupt step or the instruction at PC.
 ghost use mathlib.Core.Path.{_≡_};
-ghost use Rattle.steps.specs.Step.{operands, selected, performed, step};
+ghost use Rattle.macro_meaning.specs.Step.{operands, selected, performed, step};
+use crate::instructions::perform;
 use blocks::choice::choose;
 use blocks::memory::apply;
 use blocks::memory::load;
-use instructions::perform;
+use macro_meaning::Effect;
+use macro_meaning::MacroMachine;
+use macro_meaning::Operands;
 use status::psw::Psw;
-use steps::Effect;
-use steps::MacroMachine;
-use steps::Operands;
 use words::instruction::decode;
 use words::registers::update;
 

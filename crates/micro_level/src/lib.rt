@@ -1,15 +1,18 @@
 // The micro level: a run of one microcycle for each request byte. Every function is total; the crate
-// runs says what each answers.
+// micro_meaning says what each answers.
 ghost use mathlib.Core.Path.{_≡_};
-ghost use Rattle.runs.specs.Machine.{taken, given};
-ghost use Rattle.runs.specs.Run.{micro-test, answer-of, run};
+ghost use Rattle.micro_meaning.specs.Machine.{taken, given};
+ghost use Rattle.micro_meaning.specs.Run.{micro-test, answer-of, run};
 use answers::End;
 use answers::Microcycles;
 use answers::Steps;
-use microcycle::MicroMachine;
-use runs::MicroAnswer;
-use runs::MicroState;
-use runs::Ran;
+use micro_meaning::MicroAnswer;
+use micro_meaning::MicroMachine;
+use micro_meaning::MicroState;
+use micro_meaning::Ran;
+
+mod microcycle;
+mod run_loop;
 
 // The PSW's other bits are dropped.
 fn take(s: MicroState) -> MicroMachine

@@ -7,14 +7,14 @@ use lib.ListN.{length}
 use borrow.Author.Tests.{eq-eqb, ne-eqb}
 use Rattle.words.proofs.Cases.{turned, upright}
 use Rattle.answers.specs.Ends.{is-done}
-use Rattle.quarters.specs.declared.PhaseState.{PhaseState}
-use Rattle.quarters.specs.declared.PhaseAnswer.{PhaseAnswer}
-use Rattle.quarters.specs.Call.{phase-call}
-use Rattle.quarters.proofs.PhaseCalls.{as-lent}
-use Rattle.lending.specs.declared.Answer.{Answer}
-use Rattle.lending.specs.Answers.{refused}
-use Rattle.lending.specs.Lending.{first-test, taken, given}
-use Rattle.lending.proofs.Fitting.{taken-whole, given-whole}
+use Rattle.phase_meaning.specs.declared.PhaseState.{PhaseState}
+use Rattle.phase_meaning.specs.declared.PhaseAnswer.{PhaseAnswer}
+use Rattle.phase_meaning.specs.Call.{phase-call}
+use Rattle.phase_meaning.proofs.PhaseCalls.{as-lent}
+use Rattle.calls.specs.declared.Answer.{Answer}
+use Rattle.calls.specs.Answers.{refused}
+use Rattle.calls.specs.Lending.{first-test, taken, given}
+use Rattle.calls.proofs.Fitting.{taken-whole, given-whole}
 use Rattle.phase_call.specs.Phase.{phase-state, phase-words, latch-words, phase-found, uncounted, avm-phase}
 
 module _ (program mem registers state latches : List ℕ) (mir phase request : ℕ) {number : ℕ}

@@ -7,11 +7,11 @@ use lib.ListN.{length, getD}
 use mir.Val.{boolByte as num}
 use Rattle.answers.specs.declared.End.{End}
 use Rattle.answers.specs.Ends.{is-done}
-use Rattle.quarters.specs.declared.PhaseState.{PhaseState}
-use Rattle.quarters.specs.Call.{PhaseCalled, phase-call}
-use Rattle.lending.specs.declared.Answer.{Answer}
-use Rattle.lending.specs.Answers.{refused, answered}
-use Rattle.lending.specs.Lending.{first-test}
+use Rattle.phase_meaning.specs.declared.PhaseState.{PhaseState}
+use Rattle.phase_meaning.specs.Call.{PhaseCalled, phase-call}
+use Rattle.calls.specs.declared.Answer.{Answer}
+use Rattle.calls.specs.Answers.{refused, answered}
+use Rattle.calls.specs.Lending.{first-test}
 
 -- a phase state from the state words, the latch words (A latch, B latch, request, acknowledge; the last two count as set when not 0), MIR
 -- and the phase number

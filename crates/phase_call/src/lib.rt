@@ -4,10 +4,10 @@ ghost use mathlib.Core.Path.{_≡_};
 ghost use Rattle.phase_call.specs.Phase.{phase-state, phase-words, latch-words, phase-found, avm-phase};
 use answers::Microcycles;
 use answers::Steps;
-use lending::Answer;
-use lending::answer_of;
-use lending::refuse;
-use quarters::PhaseState;
+use calls::Answer;
+use calls::answer_of;
+use calls::refuse;
+use phase_meaning::PhaseState;
 
 // A phase state from everything that a phase call is lent for it.
 fn phase_state(
@@ -65,11 +65,11 @@ pub fn phase(
         ≡ avm-phase (now (program .entry)) (now (memory .entry)) (now (registers .entry)) (now (state .entry))
         (now (latches .entry)) (now (mir .entry)) (now (phase .entry)) request ⌝ }
 {
-    let number = lending::test(memory.len(), registers.len());
+    let number = calls::test(memory.len(), registers.len());
     if number != 0 {
         return refuse(number);
     }
-    let lent = phase_state(lending::take(registers), state, latches, *mir, *phase);
+    let lent = phase_state(calls::take(registers), state, latches, *mir, *phase);
     let called = phase_level::call::phase(program, memory, lent, request);
     let end = called.end;
     let microcycles = Microcycles { count: 0 };
@@ -79,7 +79,7 @@ pub fn phase(
     }
     let after = called.state;
     let file = after.registers;
-    lending::give(registers, file);
+    calls::give(registers, file);
     *state = phase_words(after);
     *latches = latch_words(after);
     *mir = after.mir;

@@ -1,15 +1,16 @@
 // One phase, or a refusal.
 ghost use mathlib.Core.Path.{_≡_};
-ghost use Rattle.quarters.specs.Machine.{taken, given};
-ghost use Rattle.quarters.specs.Tests.{phase-test};
-ghost use Rattle.quarters.specs.Call.{phase-done, stores, leaves, phase-call};
+ghost use Rattle.phase_meaning.specs.Machine.{taken, given};
+ghost use Rattle.phase_meaning.specs.Tests.{phase-test};
+ghost use Rattle.phase_meaning.specs.Call.{phase-done, stores, leaves, phase-call};
+use crate::phases;
 use crate::tests;
 use answers::End;
 use blocks::memory::Store;
 use blocks::memory::apply;
-use phases::PhaseMachine;
-use quarters::PhaseAnswer;
-use quarters::PhaseState;
+use phase_meaning::PhaseAnswer;
+use phase_meaning::PhaseMachine;
+use phase_meaning::PhaseState;
 
 // The PSW's other bits are dropped.
 fn take(s: PhaseState) -> PhaseMachine
@@ -71,7 +72,7 @@ fn tested(words: usize, program: &[u64], s: PhaseState, request: u8) -> End
     if !answers::done(lent) {
         return lent;
     }
-    let legal = microwords::microword::legal(mir);
+    let legal = control_store::microword::legal(mir);
     if !legal {
         return End::Microword(program.len());
     }
@@ -94,7 +95,7 @@ fn phase_done(program: &[u64], memory: &[u32], s: PhaseMachine, request: u8) -> 
         0 => phases::one(program, s, request),
         1 => phases::two(s),
         2 => phases::three(s),
-        _ => phase_four::four(memory, s),
+        _ => phases::four(memory, s),
     }
 }
 
@@ -104,7 +105,7 @@ fn stores(s: PhaseMachine) -> Store
 {
     let number = s.phase;
     if number == 3 {
-        phase_four::store(s)
+        phases::store(s)
     } else {
         Store::Nothing
     }
@@ -115,7 +116,7 @@ fn leaves(words: usize, s: PhaseMachine) -> bool
     ensures { λ r. ⌜ r ≡ leaves words s ⌝ }
 {
     let last = s.phase == 3;
-    let next = phase_four::next_address(s) as usize;
+    let next = phases::next_address(s) as usize;
     last & (words <= next)
 }
 

@@ -1,6 +1,6 @@
 // What a call tests of what it is lent, lowest number first.
 ghost use mathlib.Core.Path.{_≡_};
-ghost use Rattle.quarters.specs.Tests.{machine-test};
+ghost use Rattle.phase_meaning.specs.Tests.{machine-test};
 use answers::End;
 
 // Memory's length, register 0 and the microprogram: 1, 3, 4 and 5, which every run of microwords tests.

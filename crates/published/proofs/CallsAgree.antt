@@ -17,24 +17,24 @@ use Rattle.answers.specs.declared.End.the-variants.{Done}
 use Rattle.answers.specs.Ends.{is-done}
 use Rattle.answers.specs.Places.{above, first-place}
 use Rattle.answers.specs.Tests.{lent-test}
-use Rattle.microwords.specs.Sequencer.{fetch-address}
+use Rattle.control_store.specs.Sequencer.{fetch-address}
 use Rattle.blocks.specs.Memory.{applied}
-use Rattle.phases.specs.Phases.{interrupt}
-use Rattle.quarters.specs.Tests.{machine-test}
-use Rattle.microcycle.specs.declared.MicroMachine.{MicroMachine}
-use Rattle.microcycle.specs.Microcycle.{microcycle, micro-store}
-use Rattle.runs.specs.declared.MicroState.{MicroState}
-use Rattle.runs.specs.Machine.{taken, given}
-use Rattle.runs.specs.Run.{RanOn, MicroCalled, at-fetch, bad-request, run-on, run}
-use Rattle.quarters.proofs.TestsInOrder.{machine-refused}
-use Rattle.runs.proofs.RunTests.{Fine, lent-refused as micro-lent}
-use Rattle.runs.proofs.RunCalls.{refused as micro-call}
-use Rattle.steps.proofs.RunTests.{lent-refused as macro-lent}
-use Rattle.steps.proofs.RunCalls.{refused as macro-call}
-use Rattle.runs.proofs.RunsInARow.{as-run}
-use Rattle.steps.specs.Machine.{given as macro-given}
-use Rattle.steps.specs.Step.{Macro}
-use Rattle.steps.specs.Run.{MacroCalled, most-request, macro-test, macro-done, run as macro-run}
+use Rattle.phase_meaning.specs.Phases.{interrupt}
+use Rattle.phase_meaning.specs.Tests.{machine-test}
+use Rattle.micro_meaning.specs.declared.MicroMachine.{MicroMachine}
+use Rattle.micro_meaning.specs.Microcycle.{microcycle, micro-store}
+use Rattle.micro_meaning.specs.declared.MicroState.{MicroState}
+use Rattle.micro_meaning.specs.Machine.{taken, given}
+use Rattle.micro_meaning.specs.Run.{RanOn, MicroCalled, at-fetch, bad-request, run-on, run}
+use Rattle.phase_meaning.proofs.TestsInOrder.{machine-refused}
+use Rattle.micro_meaning.proofs.RunTests.{Fine, lent-refused as micro-lent}
+use Rattle.micro_meaning.proofs.RunCalls.{refused as micro-call}
+use Rattle.macro_meaning.proofs.RunTests.{lent-refused as macro-lent}
+use Rattle.macro_meaning.proofs.RunCalls.{refused as macro-call}
+use Rattle.micro_meaning.proofs.RunsInARow.{as-run}
+use Rattle.macro_meaning.specs.Machine.{given as macro-given}
+use Rattle.macro_meaning.specs.Step.{Macro}
+use Rattle.macro_meaning.specs.Run.{MacroCalled, most-request, macro-test, macro-done, run as macro-run}
 use Rattle.published.specs.Listing.{published}
 use Rattle.published.specs.Clocks.{macro-state, shows, steps-of, heard}
 use Rattle.published.proofs.ReadBack.{passes}

@@ -7,12 +7,12 @@ use mathlib.Core.Bool.{Bool, true, false, _&&_}
 use mathlib.Core.List.{List}
 use borrow.Author.Tests.{eq-eqb, eqb-true}
 use Rattle.blocks.specs.Memory.{fetch, applied}
-use Rattle.microwords.specs.Sequencer.{fetch-address}
-use Rattle.phases.specs.Phases.{interrupt}
-use Rattle.microcycle.specs.declared.MicroMachine.{MicroMachine}
-use Rattle.microcycle.specs.Microcycle.{microcycle, micro-store}
-use Rattle.runs.specs.Run.{at-fetch}
-use Rattle.steps.specs.Step.{Macro, step}
+use Rattle.control_store.specs.Sequencer.{fetch-address}
+use Rattle.phase_meaning.specs.Phases.{interrupt}
+use Rattle.micro_meaning.specs.declared.MicroMachine.{MicroMachine}
+use Rattle.micro_meaning.specs.Microcycle.{microcycle, micro-store}
+use Rattle.micro_meaning.specs.Run.{at-fetch}
+use Rattle.macro_meaning.specs.Step.{Macro, step}
 use Rattle.published.specs.Listing.{published}
 use Rattle.published.specs.Clocks.{macro-machine, shows, key, cycles}
 use Rattle.published.proofs.EveryOpcode.{Returned, returned, one-more, first-return, ahead, computed, cycles-are}

@@ -19,20 +19,20 @@ use Rattle.words.proofs.FieldBounds.{field-lt}
 use Rattle.alu.specs.Alu.{alu, added, subtracted, plain}
 use Rattle.status.specs.declared.psw.Psw.{Psw}
 use Rattle.status.specs.Psw.{clocked, next-psw}
-use Rattle.microwords.specs.Sequencer.{add-bt6, mpc-unit, fetch-address}
+use Rattle.control_store.specs.Sequencer.{add-bt6, mpc-unit, fetch-address}
 use Rattle.blocks.specs.Memory.{fetch, applied}
 use Rattle.blocks.specs.Sources.{a-source, b-source}
 use Rattle.datapath.specs.Operation.{operated, shifted}
 use Rattle.datapath.specs.Results.{new-psw, new-reg, new-mpc, new-ir, new-pc, new-mbr, new-mar, new-store}
-use Rattle.microwords.specs.ControlStore.{word-at}
-use Rattle.phases.specs.Phases.{interrupt}
-use Rattle.microcycle.specs.declared.MicroMachine.{MicroMachine}
-use Rattle.microcycle.specs.Microcycle.{microcycle, micro-store, next-address}
-use Rattle.runs.specs.Run.{at-fetch}
-use Rattle.steps.specs.Effects.{inc}
-use Rattle.steps.specs.Instructions.{jmp, call, interrupted, rti, rtn, gpsw, ppsw, ld, st, shift, arithmetic, logic, noop, computation, effect, eint-key}
-use Rattle.steps.specs.declared.MacroMachine.{MacroMachine}
-use Rattle.steps.specs.Step.{Macro, operands, selected, performed, step}
+use Rattle.control_store.specs.ControlStore.{word-at}
+use Rattle.phase_meaning.specs.Phases.{interrupt}
+use Rattle.micro_meaning.specs.declared.MicroMachine.{MicroMachine}
+use Rattle.micro_meaning.specs.Microcycle.{microcycle, micro-store, next-address}
+use Rattle.micro_meaning.specs.Run.{at-fetch}
+use Rattle.macro_meaning.specs.Effects.{inc}
+use Rattle.macro_meaning.specs.Instructions.{jmp, call, interrupted, rti, rtn, gpsw, ppsw, ld, st, shift, arithmetic, logic, noop, computation, effect, eint-key}
+use Rattle.macro_meaning.specs.declared.MacroMachine.{MacroMachine}
+use Rattle.macro_meaning.specs.Step.{Macro, operands, selected, performed, step}
 use Rattle.published.specs.Assembler.{packed}
 use Rattle.published.specs.Listing.{eint-u1-address, listing, published}
 use Rattle.published.specs.Clocks.{macro-machine, shows, own-cycles, cycles}

@@ -6,11 +6,11 @@ use mathlib.Core.List.{List}
 use lib.ListN.{length}
 use borrow.Author.Tests.{lt-leb}
 use Rattle.words.proofs.FieldBounds.{field-lt}
-use Rattle.microwords.proofs.SixBits.{next-lt}
+use Rattle.control_store.proofs.SixBits.{next-lt}
 use Rattle.datapath.specs.Results.{new-mpc}
-use Rattle.microwords.specs.ControlStore.{word-at}
-use Rattle.microcycle.specs.declared.MicroMachine.{MicroMachine}
-use Rattle.microcycle.specs.Microcycle.{next-address, leaves}
+use Rattle.control_store.specs.ControlStore.{word-at}
+use Rattle.micro_meaning.specs.declared.MicroMachine.{MicroMachine}
+use Rattle.micro_meaning.specs.Microcycle.{next-address, leaves}
 use Rattle.published.specs.Assembler.{packed}
 use Rattle.published.specs.Listing.{listing, published}
 

@@ -8,10 +8,10 @@ use lib.ListN.{length}
 use mir.Val.{boolByte as num}
 use Rattle.answers.specs.declared.End.the-variants.{Done}
 use Rattle.blocks.specs.Memory.{applied}
-use Rattle.microcycle.specs.declared.MicroMachine.{MicroMachine}
-use Rattle.microcycle.specs.Microcycle.{microcycle, micro-store}
-use Rattle.runs.specs.Run.{RanOn, at-fetch, run-on}
-use Rattle.runs.proofs.RunInduction.{goes-on}
+use Rattle.micro_meaning.specs.declared.MicroMachine.{MicroMachine}
+use Rattle.micro_meaning.specs.Microcycle.{microcycle, micro-store}
+use Rattle.micro_meaning.specs.Run.{RanOn, at-fetch, run-on}
+use Rattle.micro_meaning.proofs.RunInduction.{goes-on}
 use Rattle.published.specs.Listing.{published}
 use Rattle.published.proofs.NeverLeaves.{never-leaves}
 

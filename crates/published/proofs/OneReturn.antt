@@ -12,11 +12,11 @@ use lib.Dec.{eqb}
 use lib.ListN.{length}
 use mir.Val.{boolByte as num}
 use Rattle.answers.specs.declared.End.the-variants.{Done}
-use Rattle.phases.specs.Phases.{interrupt}
-use Rattle.microcycle.specs.declared.MicroMachine.{MicroMachine}
-use Rattle.runs.specs.Run.{RanOn, at-fetch, run-on}
-use Rattle.steps.specs.Step.{Macro, step}
-use Rattle.steps.specs.Instructions.{eint-key}
+use Rattle.phase_meaning.specs.Phases.{interrupt}
+use Rattle.micro_meaning.specs.declared.MicroMachine.{MicroMachine}
+use Rattle.micro_meaning.specs.Run.{RanOn, at-fetch, run-on}
+use Rattle.macro_meaning.specs.Step.{Macro, step}
+use Rattle.macro_meaning.specs.Instructions.{eint-key}
 use Rattle.published.specs.Listing.{published}
 use Rattle.published.specs.Clocks.{macro-machine, shows, key, own-cycles, cycles}
 use Rattle.published.proofs.NeverRefused.{on, from-here, never-refused}

@@ -11,18 +11,18 @@ use lib.ListN.{length}
 use mir.Val.{boolByte as num}
 use borrow.Author.Tests.{lt-leb}
 use Rattle.words.proofs.FieldBounds.{field-lt}
-use Rattle.microwords.proofs.SixBits.{next-lt}
+use Rattle.control_store.proofs.SixBits.{next-lt}
 use Rattle.blocks.specs.declared.memory.Store.{Store}
 use Rattle.blocks.specs.Memory.{applied}
 use Rattle.datapath.specs.Results.{new-mpc}
-use Rattle.phases.specs.declared.PhaseMachine.{PhaseMachine}
-use Rattle.phases.specs.Phases.{next-mpc}
-use Rattle.quarters.specs.Tests.{last-phase}
-use Rattle.quarters.specs.Call.{leaves}
-use Rattle.microcycle.specs.Machine.{seen}
-use Rattle.microcycle.specs.Microcycle.{microcycle, micro-store}
-use Rattle.microcycle.proofs.FourPhases.{first, second, third, fourth, done-alike, stored-alike, begins-again, nothing-stored-earlier}
-use Rattle.runs.specs.Run.{RanOn, at-fetch, run-on}
+use Rattle.phase_meaning.specs.declared.PhaseMachine.{PhaseMachine}
+use Rattle.phase_meaning.specs.Phases.{next-mpc}
+use Rattle.phase_meaning.specs.Tests.{last-phase}
+use Rattle.phase_meaning.specs.Call.{leaves}
+use Rattle.micro_meaning.specs.Machine.{seen}
+use Rattle.micro_meaning.specs.Microcycle.{microcycle, micro-store}
+use Rattle.micro_meaning.proofs.FourPhases.{first, second, third, fourth, done-alike, stored-alike, begins-again, nothing-stored-earlier}
+use Rattle.micro_meaning.specs.Run.{RanOn, at-fetch, run-on}
 use Rattle.published.specs.Listing.{published}
 use Rattle.published.specs.Clocks.{shows, steps-of, heard, Phased, phased, phases}
 use Rattle.published.proofs.NeverLeaves.{sixty-four}

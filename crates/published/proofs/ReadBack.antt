@@ -10,9 +10,9 @@ use lib.Seq.{ext-getD}
 use Rattle.words.specs.Words.{field, bit}
 use Rattle.answers.specs.declared.End.the-variants.{Done}
 use Rattle.answers.specs.Places.{first-place}
-use Rattle.microwords.specs.Microword.{fields}
-use Rattle.microwords.specs.Codes.{legal-microword}
-use Rattle.microwords.specs.ControlStore.{word-at, legal-store-length, store-test}
+use Rattle.control_store.specs.Microword.{fields}
+use Rattle.control_store.specs.Codes.{legal-microword}
+use Rattle.control_store.specs.ControlStore.{word-at, legal-store-length, store-test}
 use Rattle.published.specs.Assembler.{packed}
 use Rattle.published.specs.Listing.{listing, published}
 

@@ -12,13 +12,13 @@ use lib.ListN.{length}
 use mir.Val.{boolByte as num}
 use Rattle.answers.specs.declared.End.the-variants.{Done}
 use Rattle.blocks.specs.Memory.{applied}
-use Rattle.phases.specs.Phases.{interrupt}
-use Rattle.microcycle.specs.declared.MicroMachine.{MicroMachine}
-use Rattle.microcycle.specs.Microcycle.{microcycle, micro-store}
-use Rattle.runs.specs.Run.{RanOn, at-fetch, run-on}
-use Rattle.runs.proofs.RunJoins.{counted, counts-added}
-use Rattle.steps.specs.Step.{Macro, step}
-use Rattle.steps.specs.Run.{up, steps}
+use Rattle.phase_meaning.specs.Phases.{interrupt}
+use Rattle.micro_meaning.specs.declared.MicroMachine.{MicroMachine}
+use Rattle.micro_meaning.specs.Microcycle.{microcycle, micro-store}
+use Rattle.micro_meaning.specs.Run.{RanOn, at-fetch, run-on}
+use Rattle.micro_meaning.proofs.RunJoins.{counted, counts-added}
+use Rattle.macro_meaning.specs.Step.{Macro, step}
+use Rattle.macro_meaning.specs.Run.{up, steps}
 use Rattle.published.specs.Listing.{published}
 use Rattle.published.specs.Clocks.{macro-machine, shows, line, steps-of, heard}
 use Rattle.published.proofs.NeverRefused.{on, from-here, never-refused}

@@ -8,10 +8,10 @@ use mathlib.Core.List.{List, [], _∷_}
 use lib.ListN.{length}
 use mir.Val.{boolByte as num}
 use Rattle.words.proofs.FlagNumbers.{num-le}
-use Rattle.microcycle.specs.declared.MicroMachine.{MicroMachine}
-use Rattle.runs.specs.Run.{RanOn, at-fetch, run-on}
-use Rattle.runs.proofs.RunJoins.{counts-added}
-use Rattle.steps.specs.Step.{Macro}
+use Rattle.micro_meaning.specs.declared.MicroMachine.{MicroMachine}
+use Rattle.micro_meaning.specs.Run.{RanOn, at-fetch, run-on}
+use Rattle.micro_meaning.proofs.RunJoins.{counts-added}
+use Rattle.macro_meaning.specs.Step.{Macro}
 use Rattle.published.specs.Listing.{published}
 use Rattle.published.specs.Clocks.{shows, key}
 use Rattle.published.proofs.NeverRefused.{on, from-here}

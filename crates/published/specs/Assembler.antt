@@ -4,8 +4,8 @@ use Prim.Native.Nat.{ℕ, _+_, _*_, _^_}
 use mathlib.Core.Bool.{Bool, true, false}
 use mir.Val.{boolByte as num}
 use Rattle.status.specs.declared.psw.Change.{Change}
-use Rattle.microwords.specs.declared.microword.Microword.{Microword}
-use Rattle.microwords.specs.Codes.{from-reg-file, from-reg-dest, from-ssp, from-psw, from-c255, from-pc, from-ir}
+use Rattle.control_store.specs.declared.microword.Microword.{Microword}
+use Rattle.control_store.specs.Codes.{from-reg-file, from-reg-dest, from-ssp, from-psw, from-c255, from-pc, from-ir}
 
 -- shifter mnemonics (table 5.14, p. 120)
 abbrev pub shl : ℕ

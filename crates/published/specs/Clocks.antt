@@ -6,18 +6,18 @@ use mathlib.Core.List.{List, [], _∷_}
 use lib.Dec.{eqb}
 use mir.Val.{boolByte as num}
 use Rattle.blocks.specs.Memory.{fetch, applied}
-use Rattle.phases.specs.declared.PhaseMachine.{PhaseMachine}
-use Rattle.phases.specs.Phases.{interrupt}
-use Rattle.quarters.specs.Call.{phase-done, stores}
-use Rattle.microcycle.specs.declared.MicroMachine.{MicroMachine}
-use Rattle.microcycle.specs.Microcycle.{microcycle, micro-store}
-use Rattle.runs.specs.declared.MicroState.{MicroState}
-use Rattle.runs.specs.Run.{at-fetch}
-use Rattle.steps.specs.Instructions.{eint-key}
-use Rattle.steps.specs.declared.MacroState.{MacroState}
-use Rattle.steps.specs.declared.MacroMachine.{MacroMachine}
-use Rattle.steps.specs.Step.{Macro, selected}
-use Rattle.steps.specs.Run.{steps}
+use Rattle.phase_meaning.specs.declared.PhaseMachine.{PhaseMachine}
+use Rattle.phase_meaning.specs.Phases.{interrupt}
+use Rattle.phase_meaning.specs.Call.{phase-done, stores}
+use Rattle.micro_meaning.specs.declared.MicroMachine.{MicroMachine}
+use Rattle.micro_meaning.specs.Microcycle.{microcycle, micro-store}
+use Rattle.micro_meaning.specs.declared.MicroState.{MicroState}
+use Rattle.micro_meaning.specs.Run.{at-fetch}
+use Rattle.macro_meaning.specs.Instructions.{eint-key}
+use Rattle.macro_meaning.specs.declared.MacroState.{MacroState}
+use Rattle.macro_meaning.specs.declared.MacroMachine.{MacroMachine}
+use Rattle.macro_meaning.specs.Step.{Macro, selected}
+use Rattle.macro_meaning.specs.Run.{steps}
 
 -- what the macro level sees of a micro state (`Micro_Substate`, pp. 130-137)
 abbrev pub macro-machine : MicroMachine → MacroMachine

@@ -4,9 +4,9 @@
 -- NOOP_u1. How 36 to 48 and 50 to 52 are shared out is ours. docs/MICROPROGRAM.md has the same as a table. Assumes nothing.
 use Prim.Native.Nat.{ℕ}
 use mathlib.Core.List.{List, [], _∷_, map}
-use Rattle.microwords.specs.declared.microword.Microword.{Microword}
-use Rattle.microwords.specs.Codes.{nop, to-reg-file, to-ssp, to-psw, to-ir, to-pc, to-pcj, to-noreg, from-reg-file-b, from-ivec, from-ir, step, jmp, jop, jint}
-use Rattle.microwords.specs.Sequencer.{fetch-address}
+use Rattle.control_store.specs.declared.microword.Microword.{Microword}
+use Rattle.control_store.specs.Codes.{nop, to-reg-file, to-ssp, to-psw, to-ir, to-pc, to-pcj, to-noreg, from-reg-file-b, from-ivec, from-ir, step, jmp, jop, jint}
+use Rattle.control_store.specs.Sequencer.{fetch-address}
 use Rattle.published.specs.Assembler.{shl, shr, asr, nsh, add, addc, inc, sub, subc, dec, band, bxor, bor, bnot}
 use Rattle.published.specs.Assembler.{ASource, a-reg-file, a-reg-dest, a-ssp, a-psw, a-c255, a-pc, a-noreg, a-mbr, b-noreg, to-mar, to-mbr, mar-gets-pc, no-special, oper}
 use Rattle.published.specs.Assembler.{Status, set-psw, set-it, clr-it, pass, ld-from-alu, ld-from-shifter, pass-carry, ld, keep}

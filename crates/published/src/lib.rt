@@ -1,7 +1,7 @@
 // The published microprogram: the table of its 64 microwords. specs/ has it by fields.
 ghost use mathlib.Core.Path.{_≡_};
 ghost use Prim.Native.Nat.{_%_};
-ghost use Rattle.microwords.specs.ControlStore.{word-at};
+ghost use Rattle.control_store.specs.ControlStore.{word-at};
 ghost use Rattle.published.specs.Listing.{published};
 
 const PUBLISHED: [u64; 64] = [

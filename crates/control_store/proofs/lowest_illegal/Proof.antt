@@ -7,7 +7,7 @@ use mathlib.Core.Bool.{not}
 use lib.ListN.{length, drop}
 use Rattle.answers.specs.Places.{first-place}
 use Rattle.answers.proofs.FirstPlace.{found, passed, none-left}
-use Rattle.microwords.specs.ControlStore.{illegal}
+use Rattle.control_store.specs.ControlStore.{illegal}
 use Rattle.control_store.proofs.lowest_illegal.Statement.{statement}
 use Rattle.control_store.proofs.lowest_illegal.Tie as tie
 

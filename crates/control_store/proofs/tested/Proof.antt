@@ -4,8 +4,8 @@ use mathlib.Core.Path.{sym, ap, subst, _∙_}
 use Prim.Native.Nat.{ℕ, _<_, _≤_}
 use lib.ListN.{length}
 use Rattle.answers.specs.declared.End.the-variants.{Microword}
-use Rattle.microwords.specs.ControlStore.{legal-store-length}
-use Rattle.microwords.proofs.StoreTest.{bad-length, bad-word, all-legal}
+use Rattle.control_store.specs.ControlStore.{legal-store-length}
+use Rattle.control_store.proofs.StoreTest.{bad-length, bad-word, all-legal}
 use Rattle.control_store.proofs.tested.Statement.{statement}
 use Rattle.control_store.proofs.tested.Tie as tie
 

@@ -2,7 +2,7 @@
 use borrow.Author.Needs.{needs}
 use mathlib.Core.Path.{sym}
 use lib.ListN.{List·getD-eq-default}
-use Rattle.microwords.specs.ControlStore.{word-at}
+use Rattle.control_store.specs.ControlStore.{word-at}
 use Rattle.control_store.proofs.word_at.Statement.{statement}
 use Rattle.control_store.proofs.word_at.Tie as tie
 

@@ -1,7 +1,7 @@
 -- In each arm the reading is the one that the arm names.
 use borrow.Author.Needs.{needs}
 use mathlib.Core.Path.{sym, ap}
-use Rattle.images.specs.Reading.{finish}
+use Rattle.image_meaning.specs.Reading.{finish}
 use Rattle.image_reader.proofs.end_of.Statement.{statement}
 use Rattle.image_reader.proofs.end_of.Tie as tie
 

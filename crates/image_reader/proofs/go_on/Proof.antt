@@ -1,9 +1,9 @@
 -- In each arm the reading is the one that the arm names; an open one has its line tested.
 use borrow.Author.Needs.{needs}
 use mathlib.Core.Path.{sym, ap, _∙_}
-use Rattle.images.specs.declared.Reading.{Reading}
-use Rattle.images.specs.declared.Line.{Line}
-use Rattle.images.specs.Reading.{next, tested}
+use Rattle.image_meaning.specs.declared.Reading.{Reading}
+use Rattle.image_meaning.specs.declared.Line.{Line}
+use Rattle.image_meaning.specs.Reading.{next, tested}
 use Rattle.image_reader.proofs.go_on.Statement.{statement}
 use Rattle.image_reader.proofs.go_on.Tie as tie
 

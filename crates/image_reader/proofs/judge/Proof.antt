@@ -5,9 +5,9 @@ use native.Mathlib.Nat.{le-of-lt}
 use native.Mathlib.Omega.{arith}
 use mathlib.Core.Path.{_≡_, refl, sym, _∙_}
 use lib.ListN.{length, drop}
-use Rattle.images.specs.Lines.{lines-of}
-use Rattle.images.specs.Reading.{judged, read-lines}
-use Rattle.records.proofs.FirstLine.{ends-behind, ends-inside}
+use Rattle.image_meaning.specs.Lines.{lines-of}
+use Rattle.image_meaning.specs.Reading.{judged, read-lines}
+use Rattle.image_records.proofs.FirstLine.{ends-behind, ends-inside}
 use Rattle.image_reader.proofs.LineTurns.{line-read, all-read}
 use Rattle.image_reader.proofs.judge.Statement.{statement}
 use Rattle.image_reader.proofs.judge.Tie as tie

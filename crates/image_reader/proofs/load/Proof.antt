@@ -6,9 +6,9 @@ use native.Mathlib.Omega.{arith}
 use mathlib.Core.Path.{_≡_, refl, sym, _∙_}
 use mathlib.Core.List.{foldl}
 use lib.ListN.{length, drop}
-use Rattle.images.specs.Lines.{lines-of}
-use Rattle.images.specs.Reading.{with-line, loaded}
-use Rattle.records.proofs.FirstLine.{ends-behind, ends-inside}
+use Rattle.image_meaning.specs.Lines.{lines-of}
+use Rattle.image_meaning.specs.Reading.{with-line, loaded}
+use Rattle.image_records.proofs.FirstLine.{ends-behind, ends-inside}
 use Rattle.image_reader.proofs.LineTurns.{line-stored, all-stored}
 use Rattle.image_reader.proofs.load.Statement.{statement}
 use Rattle.image_reader.proofs.load.Tie as tie

@@ -2,8 +2,8 @@
 use borrow.Author.Needs.{needs}
 use mathlib.Core.Path.{_≡_, sym, ap, _∙_}
 use Prim.Native.Nat.{ℕ, _+_}
-use Rattle.placing.specs.declared.Placed.{Placed}
-use Rattle.images.specs.Reading.{data-read}
+use Rattle.image_placing.specs.declared.Placed.{Placed}
+use Rattle.image_meaning.specs.Reading.{data-read}
 use Rattle.image_reader.proofs.place_data.Statement.{statement}
 use Rattle.image_reader.proofs.place_data.Tie as tie
 

@@ -5,8 +5,8 @@ use native.Mathlib.Omega.{arith}
 use mathlib.Core.Path.{_≡_, refl, sym, _∙_}
 use lib.ListN.{length, drop}
 use lib.Seq.{sets}
-use Rattle.images.specs.Digits.{words-of}
-use Rattle.images.specs.Records.{data-of}
+use Rattle.image_meaning.specs.Digits.{words-of}
+use Rattle.image_meaning.specs.Records.{data-of}
 use Rattle.image_reader.proofs.LineTurns.{word-stored, no-word-left}
 use Rattle.image_reader.proofs.store_words.Statement.{statement}
 use Rattle.image_reader.proofs.store_words.Tie as tie

@@ -1,7 +1,7 @@
 -- Each way out is a law of TestCases, at the record that was said.
 use borrow.Author.Needs.{needs}
 use mathlib.Core.Path.{sym, ap}
-use Rattle.images.specs.Reading.{tested}
+use Rattle.image_meaning.specs.Reading.{tested}
 use Rattle.image_reader.proofs.TestCases.{sum-wrong, data-line, other-kind, end-misplaced, text-closed}
 use Rattle.image_reader.proofs.test.Statement.{statement}
 use Rattle.image_reader.proofs.test.Tie as tie

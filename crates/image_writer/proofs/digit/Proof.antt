@@ -3,7 +3,7 @@ use borrow.Author.Needs.{needs}
 use borrow.Author.Tests.{lt-ltb, le-ltb}
 use Prim.Native.Nat.{_%_}
 use mathlib.Core.Path.{sym}
-use Rattle.images.specs.Digits.{digit}
+use Rattle.image_meaning.specs.Digits.{digit}
 use Rattle.image_writer.proofs.digit.Statement.{statement}
 use Rattle.image_writer.proofs.digit.Tie as tie
 

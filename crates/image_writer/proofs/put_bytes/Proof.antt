@@ -5,7 +5,7 @@ use native.Mathlib.Omega.{arith}
 use mathlib.Core.Path.{_≡_, refl, sym, _∙_}
 use lib.ListN.{length, drop}
 use lib.Seq.{sets}
-use Rattle.images.specs.Digits.{hex, sum-of}
+use Rattle.image_meaning.specs.Digits.{hex, sum-of}
 use Rattle.image_writer.proofs.PutDigits.{byte-put, byte-summed, all-put, all-summed}
 use Rattle.image_writer.proofs.put_bytes.Statement.{statement}
 use Rattle.image_writer.proofs.put_bytes.Tie as tie

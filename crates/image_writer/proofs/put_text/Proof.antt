@@ -5,7 +5,7 @@ use native.Mathlib.Omega.{arith}
 use mathlib.Core.Path.{_≡_, refl, sym, _∙_}
 use lib.ListN.{length, drop}
 use lib.Seq.{sets}
-use Rattle.images.specs.Writing.{text-from, written-text}
+use Rattle.image_meaning.specs.Writing.{text-from, written-text}
 use Rattle.image_writer.proofs.PutLines.{twenty-bytes, words-put, end-put}
 use Rattle.image_writer.proofs.put_text.Statement.{statement}
 use Rattle.image_writer.proofs.put_text.Tie as tie

@@ -2,7 +2,7 @@
 use borrow.Author.Needs.{needs}
 use Prim.Native.Nat.{_≤_}
 use lib.ListN.{length}
-use Rattle.images.proofs.InFours.{whole-fours, at-most-16384}
+use Rattle.image_meaning.proofs.InFours.{whole-fours, at-most-16384}
 use Rattle.image_writer.proofs.WriteCases.{length-refused, is-legal, room-refused, all-written}
 use Rattle.image_writer.proofs.write.Statement.{statement}
 use Rattle.image_writer.proofs.write.Tie as tie

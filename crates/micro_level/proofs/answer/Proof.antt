@@ -3,8 +3,8 @@ use borrow.Author.Needs.{needs}
 use mathlib.Core.Path.{_≡_}
 use mathlib.Core.Bool.{Bool, true, false, not, _&&_}
 use Rattle.answers.specs.Ends.{is-done}
-use Rattle.runs.specs.declared.Ran.{Ran}
-use Rattle.runs.specs.Run.{untouched}
+use Rattle.micro_meaning.specs.declared.Ran.{Ran}
+use Rattle.micro_meaning.specs.Run.{untouched}
 use lib.Dec.{eqb}
 use Rattle.micro_level.proofs.answer.Statement.{statement}
 use Rattle.micro_level.proofs.answer.Tie as tie

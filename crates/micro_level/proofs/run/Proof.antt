@@ -1,8 +1,8 @@
 -- Each end is a case of the definition; an answer and a memory are the two parts of what was called.
 use borrow.Author.Needs.{needs}
 use mathlib.Core.Path.{sym, ap}
-use Rattle.runs.specs.Run.{MicroCalled}
-use Rattle.runs.proofs.RunCalls.{refused, ran}
+use Rattle.micro_meaning.specs.Run.{MicroCalled}
+use Rattle.micro_meaning.proofs.RunCalls.{refused, ran}
 use Rattle.micro_level.proofs.run.Statement.{statement}
 use Rattle.micro_level.proofs.run.Tie as tie
 

@@ -1,7 +1,7 @@
 -- The tests are the definition's, in its order.
 use borrow.Author.Needs.{needs}
 use mathlib.Core.Path.{sym}
-use Rattle.runs.proofs.RunTests.{lent-refused, outside, request-refused, nothing-refused}
+use Rattle.micro_meaning.proofs.RunTests.{lent-refused, outside, request-refused, nothing-refused}
 use Rattle.micro_level.proofs.tested.Statement.{statement}
 use Rattle.micro_level.proofs.tested.Tie as tie
 

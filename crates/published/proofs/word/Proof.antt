@@ -1,7 +1,7 @@
 -- The table is the listing packed: one computed test over its 64 words.
 use borrow.Author.Needs.{needs}
 use mathlib.Core.Path.{refl}
-use Rattle.microwords.specs.ControlStore.{word-at}
+use Rattle.control_store.specs.ControlStore.{word-at}
 use Rattle.published.specs.Assembler.{packed}
 use Rattle.published.specs.Listing.{listing, published}
 use Rattle.published.proofs.word.Statement.{statement}

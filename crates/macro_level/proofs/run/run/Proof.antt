@@ -1,8 +1,8 @@
 -- Each end is a case of the definition; an answer and a memory are the two parts of what was called.
 use borrow.Author.Needs.{needs}
 use mathlib.Core.Path.{sym, ap}
-use Rattle.steps.specs.Run.{MacroCalled}
-use Rattle.steps.proofs.RunCalls.{refused, ran}
+use Rattle.macro_meaning.specs.Run.{MacroCalled}
+use Rattle.macro_meaning.proofs.RunCalls.{refused, ran}
 use Rattle.macro_level.proofs.run.run.Statement.{statement}
 use Rattle.macro_level.proofs.run.run.Tie as tie
 

@@ -4,9 +4,9 @@ use Prim.Native.Nat.{_≤_, _-_}
 use native.Mathlib.Omega.{arith}
 use mathlib.Core.Path.{_≡_, refl, sym, ap, _∙_}
 use lib.ListN.{length, drop}
-use Rattle.steps.specs.Step.{Macro}
-use Rattle.steps.specs.Run.{steps}
-use Rattle.steps.proofs.RunTurns.{more, over}
+use Rattle.macro_meaning.specs.Step.{Macro}
+use Rattle.macro_meaning.specs.Run.{steps}
+use Rattle.macro_meaning.proofs.RunTurns.{more, over}
 use Rattle.macro_level.proofs.run.stepped.Statement.{statement}
 use Rattle.macro_level.proofs.run.stepped.Tie as tie
 

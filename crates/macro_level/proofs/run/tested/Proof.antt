@@ -1,7 +1,7 @@
 -- The tests are the definition's, in its order.
 use borrow.Author.Needs.{needs}
 use mathlib.Core.Path.{sym}
-use Rattle.steps.proofs.RunTests.{lent-refused, request-refused, nothing-refused}
+use Rattle.macro_meaning.proofs.RunTests.{lent-refused, request-refused, nothing-refused}
 use Rattle.macro_level.proofs.run.tested.Statement.{statement}
 use Rattle.macro_level.proofs.run.tested.Tie as tie
 

@@ -1,6 +1,6 @@
 -- The registers are what the rule's call ensures.
 use borrow.Author.Needs.{needs}
-use Rattle.steps.proofs.StepParts.{the-state}
+use Rattle.macro_meaning.proofs.StepParts.{the-state}
 use Rattle.macro_level.proofs.step.performed.Statement.{statement}
 use Rattle.macro_level.proofs.step.performed.Tie as tie
 

@@ -1,6 +1,6 @@
 -- Each value is what its call ensures.
 use borrow.Author.Needs.{needs}
-use Rattle.steps.specs.Step.{selected}
+use Rattle.macro_meaning.specs.Step.{selected}
 use Rattle.macro_level.proofs.step.selected.Statement.{statement}
 use Rattle.macro_level.proofs.step.selected.Tie as tie
 

@@ -1,6 +1,6 @@
 -- Each part is what its call ensures.
 use borrow.Author.Needs.{needs}
-use Rattle.steps.proofs.StepParts.{the-machine, the-memory}
+use Rattle.macro_meaning.proofs.StepParts.{the-machine, the-memory}
 use Rattle.macro_level.proofs.step.step.Statement.{statement}
 use Rattle.macro_level.proofs.step.step.Tie as tie
 

@@ -1,6 +1,6 @@
 -- The next address is what its call ensures.
 use borrow.Author.Needs.{needs}
-use Rattle.quarters.specs.Call.{leaves}
+use Rattle.phase_meaning.specs.Call.{leaves}
 use Rattle.phase_level.proofs.call.leaves.Statement.{statement}
 use Rattle.phase_level.proofs.call.leaves.Tie as tie
 

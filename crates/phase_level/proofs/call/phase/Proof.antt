@@ -1,8 +1,8 @@
 -- Each end is a case of the definition; an answer and a memory are the two parts of what was called.
 use borrow.Author.Needs.{needs}
 use mathlib.Core.Path.{sym, ap}
-use Rattle.quarters.specs.Call.{PhaseCalled}
-use Rattle.quarters.proofs.PhaseCalls.{test-refused, left, went}
+use Rattle.phase_meaning.specs.Call.{PhaseCalled}
+use Rattle.phase_meaning.proofs.PhaseCalls.{test-refused, left, went}
 use Rattle.phase_level.proofs.call.phase.Statement.{statement}
 use Rattle.phase_level.proofs.call.phase.Tie as tie
 

@@ -2,7 +2,7 @@
 use borrow.Author.Needs.{needs}
 use borrow.Author.Tests.{ne-eqb}
 use mathlib.Core.Path.{_∙_}
-use Rattle.quarters.specs.Call.{phase-done}
+use Rattle.phase_meaning.specs.Call.{phase-done}
 use Rattle.phase_level.proofs.call.phase_done.Statement.{statement}
 use Rattle.phase_level.proofs.call.phase_done.Tie as tie
 

@@ -1,7 +1,7 @@
 -- The tests are the definition's, in its order.
 use borrow.Author.Needs.{needs}
 use mathlib.Core.Path.{sym}
-use Rattle.quarters.proofs.TestsInOrder.{lent-refused, mir-refused, outside, request-refused, nothing-refused}
+use Rattle.phase_meaning.proofs.TestsInOrder.{lent-refused, mir-refused, outside, request-refused, nothing-refused}
 use Rattle.phase_level.proofs.call.tested.Statement.{statement}
 use Rattle.phase_level.proofs.call.tested.Tie as tie
 

@@ -1,7 +1,7 @@
 -- The tests are the definition's, in its order.
 use borrow.Author.Needs.{needs}
 use mathlib.Core.Path.{sym, _∙_}
-use Rattle.quarters.proofs.TestsInOrder.{machine-refused, the-program}
+use Rattle.phase_meaning.proofs.TestsInOrder.{machine-refused, the-program}
 use Rattle.phase_level.proofs.tests.machine.Statement.{statement}
 use Rattle.phase_level.proofs.tests.machine.Tie as tie
 

@@ -1,0 +1,2 @@
+-- A run over one byte, which the functions are.
+pub mod OneByte

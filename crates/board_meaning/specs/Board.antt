@@ -1,0 +1,69 @@
+-- The bench board: the micro level's state as one record, lent to a call and advanced where it stands, by one microcycle or by one
+-- instruction, which is one macro step and keeps IR, MAR, MBR and MPC (the scope, on the machine that ships). Assumes nothing.
+use Prim.Native.Nat.{ℕ}
+use mathlib.Core.List.{List, [], _∷_}
+use Rattle.calls.specs.declared.Answer.{Answer}
+use Rattle.calls.specs.Answers.{answered}
+use Rattle.micro_meaning.specs.declared.MicroState.{MicroState}
+use Rattle.micro_meaning.specs.Run as micro
+use Rattle.macro_meaning.specs.declared.MacroState.{MacroState}
+use Rattle.macro_meaning.specs.Run as macro
+use Rattle.board_meaning.specs.declared.Moved.{Moved}
+
+-- what a call answers, and what it leaves
+pub record Left : Type 0 where
+  pub answer : Answer
+  pub board : MicroState
+  pub memory : List ℕ
+
+-- what is found after the call, place by place
+abbrev pub found : Answer → MicroState → List ℕ → Left
+found answer board mem = record { answer = answer; board = board; memory = mem }
+
+-- .. and after a call that hands the board back by value
+abbrev pub left : Moved → List ℕ → Left
+left m mem = found (m .answer) (m .board) mem
+
+-- a call of the micro level, answered as every C call is
+abbrev pub micro-left : micro.MicroCalled → Left
+micro-left called =
+    record {
+      answer = answered (called .answer .end) (called .answer .microcycles) (called .answer .steps);
+      board = called .answer .state;
+      memory = called .memory;
+    }
+
+-- one microcycle: a run over one request byte
+unfoldable pub board-microcycle : MicroState → List ℕ → List ℕ → ℕ → Left
+board-microcycle board program mem request = micro-left (micro.run program mem board (request ∷ []))
+
+-- what the macro level sees of a board
+abbrev pub seen : MicroState → MacroState
+seen board = record { registers = board .registers; psw = board .psw; pc = board .pc; ivec = board .ivec }
+
+-- .. and back: IR, MAR, MBR and MPC are kept, whatever they are
+abbrev pub shown-on : MicroState → MacroState → MicroState
+shown-on board s =
+    record {
+      registers = s .registers;
+      psw = s .psw;
+      pc = s .pc;
+      ir = board .ir;
+      mar = board .mar;
+      mbr = board .mbr;
+      mpc = board .mpc;
+      ivec = s .ivec;
+    }
+
+-- a call of the macro level on what it sees of the board; it counts no microcycles
+abbrev pub macro-left : MicroState → macro.MacroCalled → Left
+macro-left board called =
+    record {
+      answer = answered (called .answer .end) (record { count = 0 }) (called .answer .steps);
+      board = shown-on board (called .answer .state);
+      memory = called .memory;
+    }
+
+-- one instruction: a step over one request byte
+unfoldable pub board-instruction : MicroState → List ℕ → ℕ → Left
+board-instruction board mem request = macro-left board (macro.run mem (seen board) (request ∷ []))

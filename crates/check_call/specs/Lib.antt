@@ -1,0 +1,2 @@
+-- avm_check, as include/schoonleech.h declares it.
+pub mod Checks

@@ -1,7 +1,0 @@
--- A refusal has no length.
-use mathlib.Core.Path.{refl}
-use Rattle.checker.proofs.refusal.Statement.{statement}
-use Rattle.checker.proofs.refusal.Tie as tie
-
-pub refusal-spec : {M : Type 1} → statement M
-refusal-spec = tie.close (tie.spec (λ c. refl))

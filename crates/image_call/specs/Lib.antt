@@ -1,0 +1,2 @@
+-- avm_read and avm_write, as include/schoonleech.h declares them.
+pub mod Images

@@ -1,0 +1,42 @@
+-- Each end is a case of the definition.
+use borrow.Author.Needs.{needs}
+use Rattle.macro_call.proofs.StepsCases.{steps-refused, steps-done}
+use Rattle.macro_call.proofs.steps.Statement.{statement}
+use Rattle.macro_call.proofs.steps.Tie as tie
+
+returns : tie.Need-returns
+returns c =
+    let tested = c .before .before in
+    let args = tested .before .before .before .before .args in
+    steps-refused (args .memory .now) (args .registers .now) (args .state .now) (args .requests .now)
+    (tested .test .ensures) (c .before .if1 .taken) (c .refuse .ensures)
+
+returns-2 : tie.Need-returns-2
+returns-2 c =
+    let given = c .before .before .before .before .before in
+    let ran = given .before .before .before .before .before .before .before in
+    let lent = ran .before .before in
+    let took = lent .before .before in
+    let tested = took .before .before .before in
+    let args = tested .before .before .before .before .args in
+    steps-done (args .memory .now) (args .registers .now) (args .state .now) (args .requests .now)
+    (tested .test .ensures) (took .before .before .if1 .left)
+    (took .take .ensures) (lent .macro-state .ensures) (ran .run .ensures .0) (ran .run .ensures .1)
+    (given .give .ensures) (c .before .macro-words .ensures) (c .answer-of .ensures)
+
+pub steps-spec : {M : Type 1} → statement M
+steps-spec =
+    tie.close
+    (tie.spec
+    (λ c κs. search needs)
+    (λ c κs. search needs)
+    returns
+    (λ c κs. search needs)
+    (λ c κs. search needs)
+    (λ c κs. search needs)
+    (λ c κs. search needs)
+    (λ c κs. search needs)
+    (λ c κs. search needs)
+    (λ c. search needs)
+    (λ c. search needs)
+    returns-2)

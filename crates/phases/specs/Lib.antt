@@ -1,2 +1,0 @@
--- The four phases (section 5.2.3, from p. 110).
-pub mod Phases
