@@ -2,7 +2,7 @@
 // The crate schoonleech exports both over a board that is lent and advanced where it stands. Every
 // function is total; the crate board_meaning says what each answers.
 ghost use mathlib.Core.Path.{_≡_};
-ghost use Rattle.board_meaning.specs.Board.{left, seen, shown-on, board-microcycle, board-instruction};
+ghost use Rattle.board_meaning.specs.Board.{moved-found, seen, shown-on, board-microcycle, board-instruction};
 use answers::Microcycles;
 use board_meaning::Moved;
 use calls::answer_of;
@@ -41,7 +41,7 @@ fn board_after(board: MicroState, s: MacroState) -> MicroState
 
 // One microcycle: a run over one request byte.
 pub fn microcycle(board: MicroState, program: &[u64], memory: &mut [u32], request: u8) -> Moved
-    ensures { λ r. ⌜ left r (now (memory .exit))
+    ensures { λ r. ⌜ moved-found r (now (memory .exit))
         ≡ board-microcycle board (now (program .entry)) (now (memory .entry)) request ⌝ }
 {
     let one_microcycle = [request];
@@ -59,7 +59,7 @@ pub fn microcycle(board: MicroState, program: &[u64], memory: &mut [u32], reques
 
 // One instruction step: a run of the macro level over one request byte.
 pub fn instruction(board: MicroState, memory: &mut [u32], request: u8) -> Moved
-    ensures { λ r. ⌜ left r (now (memory .exit)) ≡ board-instruction board (now (memory .entry)) request ⌝ }
+    ensures { λ r. ⌜ moved-found r (now (memory .exit)) ≡ board-instruction board (now (memory .entry)) request ⌝ }
 {
     let one_step = [request];
     let called = macro_level::run::run(memory, macro_state(board), &one_step);

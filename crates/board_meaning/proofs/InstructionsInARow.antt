@@ -20,10 +20,10 @@ use Rattle.answers.specs.Places.{above, first-place}
 use Rattle.answers.specs.Tests.{lent-test}
 use Rattle.micro_meaning.specs.declared.MicroState.{MicroState}
 use Rattle.macro_meaning.specs.declared.MacroMachine.{MacroMachine}
-use Rattle.macro_meaning.specs.Machine.{taken, given}
+use Rattle.macro_meaning.specs.Machine.{macro-unpacked, macro-packed}
 use Rattle.macro_meaning.specs.Step.{Macro, step}
 use Rattle.macro_meaning.specs.Run.{most-request, macro-test, up, steps, macro-done, macro-refused, run}
-use Rattle.board_meaning.specs.Board.{Left, seen, shown-on, macro-left, board-instruction}
+use Rattle.board_meaning.specs.Board.{BoardFound, seen, shown-on, instruction-found, board-instruction}
 
 -- what a display shows
 pub record Shown : Type 0 where
@@ -35,29 +35,29 @@ pub record Shown : Type 0 where
 unfoldable pub one-by-one : MicroState → List ℕ → List ℕ → Shown
 one-by-one board mem [] = record { board = board; memory = mem; steps = 0 }
 one-by-one board mem (request ∷ rest) =
-    let left = board-instruction board mem request in
-    let after = one-by-one (left .board) (left .memory) rest in
-    record { board = after .board; memory = after .memory; steps = left .answer .steps .count + after .steps }
+    let call = board-instruction board mem request in
+    let after = one-by-one (call .board) (call .memory) rest in
+    record { board = after .board; memory = after .memory; steps = call .answer .steps .count + after .steps }
 
 -- .. and each of them is done
 unfoldable pub all-done : MicroState → List ℕ → List ℕ → Type 0
 all-done board mem [] = Unit {0}
 all-done board mem (request ∷ rest) =
-    let left = board-instruction board mem request in
-    (eqb (left .answer .number) 0 ≡ true) × all-done (left .board) (left .memory) rest
+    let call = board-instruction board mem request in
+    (eqb (call .answer .number) 0 ≡ true) × all-done (call .board) (call .memory) rest
 
-abbrev pub shown-by : Left → Shown
-shown-by left = record { board = left .board; memory = left .memory; steps = left .answer .steps .count }
+abbrev pub shown-by : BoardFound → Shown
+shown-by call = record { board = call .board; memory = call .memory; steps = call .answer .steps .count }
 
 module _ (board : MicroState) (mem : List ℕ) where
-  abbrev ran : List ℕ → Left
-  ran requests = macro-left board (macro-done (length requests) (steps mem (taken (seen board)) requests))
+  abbrev ran : List ℕ → BoardFound
+  ran requests = instruction-found board (macro-done (length requests) (steps mem (macro-unpacked (seen board)) requests))
 
   -- a run by the outcome of its tests
-  abbrev by-tests : Bool → List ℕ → Left
+  abbrev by-tests : Bool → List ℕ → BoardFound
   by-tests fine requests =
-      macro-left board
-      (cond fine (macro-done (length requests) (steps mem (taken (seen board)) requests))
+      instruction-found board
+      (cond fine (macro-done (length requests) (steps mem (macro-unpacked (seen board)) requests))
       (macro-refused (macro-test (length mem) (seen board) requests) (seen board) mem))
 
   abbrev fine : List ℕ → Bool
@@ -111,9 +111,9 @@ all-good : (requests : List ℕ) (board : MicroState) (mem : List ℕ) → all-d
 unfolding all-done first-place
 all-good [] board mem all = refl
 all-good (request ∷ rest) board mem all =
-    let left = board-instruction board mem request in
+    let call = board-instruction board mem request in
     go (above most-request request) (byte-good board mem request (tests-passed board mem request (all .0)))
-    (all-good rest (left .board) (left .memory) (all .1))
+    (all-good rest (call .board) (call .memory) (all .1))
   where
     go : (b : Bool) → b ≡ false → first-place (above most-request) rest ≡ length rest
         → cond b 0 (suc (first-place (above most-request) rest)) ≡ suc (length rest)
@@ -121,7 +121,7 @@ all-good (request ∷ rest) board mem all =
     go false e ih = ap suc ih
 
 -- a board's PSW of six bits is given back as it was taken
-given-back : (board : MicroState) → board .psw < 64 → shown-on board (given (taken (seen board))) ≡ board
+given-back : (board : MicroState) → board .psw < 64 → shown-on board (macro-packed (macro-unpacked (seen board))) ≡ board
 given-back board six =
     ap (λ (psw : ℕ). record {
       registers = board .registers;
@@ -134,55 +134,55 @@ given-back board six =
       ivec = board .ivec;
     }) (dropped (board .psw) ∙ mod-eq-of-lt six)
 
-taken-back : (m : MacroMachine) → taken (given m) ≡ m
+taken-back : (m : MacroMachine) → macro-unpacked (macro-packed m) ≡ m
 taken-back m = ap (λ (psw : Psw). record { registers = m .registers; psw = psw; pc = m .pc; ivec = m .ivec }) (restored (m .psw))
 
 -- a step on a board, and what the calls behind it show
 abbrev stepped : MicroState → List ℕ → ℕ → Macro
-stepped board mem request = step mem (taken (seen board)) (up request)
+stepped board mem request = step mem (macro-unpacked (seen board)) (up request)
 
 abbrev after : MicroState → MacroMachine → List ℕ → List ℕ → Shown
 after board m mem requests =
     let done = steps mem m requests in
-    record { board = shown-on board (given (done .machine)); memory = done .memory; steps = length requests }
+    record { board = shown-on board (macro-packed (done .machine)); memory = done .memory; steps = length requests }
 
 one-and : (n : ℕ) → 1 + n ≡ suc n
 one-and n = omega arith
 
 -- the calls are the steps, one behind the other
 are-steps : (requests : List ℕ) (board : MicroState) (mem : List ℕ) → board .psw < 64 → all-done board mem requests
-    → one-by-one board mem requests ≡ after board (taken (seen board)) mem requests
+    → one-by-one board mem requests ≡ after board (macro-unpacked (seen board)) mem requests
 unfolding one-by-one all-done steps
 are-steps [] board mem six all = ap (λ (b : MicroState). record { board = b; memory = mem; steps = 0 }) (sym (given-back board six))
 are-steps (request ∷ rest) board mem six all =
-    subst (λ (left : Left). all-done (left .board) (left .memory) rest
+    subst (λ (call : BoardFound). all-done (call .board) (call .memory) rest
     → record {
-      board = one-by-one (left .board) (left .memory) rest .board;
-      memory = one-by-one (left .board) (left .memory) rest .memory;
-      steps = left .answer .steps .count + one-by-one (left .board) (left .memory) rest .steps;
-    } ≡ after board (taken (seen board)) mem (request ∷ rest))
+      board = one-by-one (call .board) (call .memory) rest .board;
+      memory = one-by-one (call .board) (call .memory) rest .memory;
+      steps = call .answer .steps .count + one-by-one (call .board) (call .memory) rest .steps;
+    } ≡ after board (macro-unpacked (seen board)) mem (request ∷ rest))
     (sym (is-its-step board mem request (all .0)))
     (λ all′. from-there (are-steps rest moved then (six-bits (stepped board mem request .machine .psw)) all′))
     (all .1)
   where
     moved : MicroState
-    moved = shown-on board (given (stepped board mem request .machine))
+    moved = shown-on board (macro-packed (stepped board mem request .machine))
 
     then : List ℕ
     then = stepped board mem request .memory
 
-    from-there : one-by-one moved then rest ≡ after moved (taken (seen moved)) then rest
+    from-there : one-by-one moved then rest ≡ after moved (macro-unpacked (seen moved)) then rest
         → record {
           board = one-by-one moved then rest .board;
           memory = one-by-one moved then rest .memory;
           steps = 1 + one-by-one moved then rest .steps;
-        } ≡ after board (taken (seen board)) mem (request ∷ rest)
+        } ≡ after board (macro-unpacked (seen board)) mem (request ∷ rest)
     from-there ih =
         ap (λ (s : Shown). record { board = s .board; memory = s .memory; steps = 1 + s .steps })
         (ih ∙ ap (λ (m : MacroMachine). after moved m then rest) (taken-back (stepped board mem request .machine)))
         ∙ ap (λ (count : ℕ). record {
-          board = shown-on board (given (steps mem (taken (seen board)) (request ∷ rest) .machine));
-          memory = steps mem (taken (seen board)) (request ∷ rest) .memory;
+          board = shown-on board (macro-packed (steps mem (macro-unpacked (seen board)) (request ∷ rest) .machine));
+          memory = steps mem (macro-unpacked (seen board)) (request ∷ rest) .memory;
           steps = count;
         }) (one-and (length rest))
 
@@ -194,11 +194,11 @@ together board mem requests l good = rw (l, good, le-ltb (length requests) (leng
 
 -- .. so the calls are one run. No byte, no change, whether the run is refused or done.
 pub calls-are-a-run : (requests : List ℕ) (board : MicroState) (mem : List ℕ) → board .psw < 64 → all-done board mem requests
-    → one-by-one board mem requests ≡ shown-by (macro-left board (run mem (seen board) requests))
+    → one-by-one board mem requests ≡ shown-by (instruction-found board (run mem (seen board) requests))
 unfolding run all-done steps
 calls-are-a-run [] board mem six all = are-steps [] board mem six all ∙ by-test (fine board mem [])
   where
-    by-test : (b : Bool) → after board (taken (seen board)) mem [] ≡ shown-by (by-tests board mem b [])
+    by-test : (b : Bool) → after board (macro-unpacked (seen board)) mem [] ≡ shown-by (by-tests board mem b [])
     by-test true = refl
     by-test false = ap (λ (b : MicroState). record { board = b; memory = mem; steps = 0 }) (given-back board six)
 calls-are-a-run (request ∷ rest) board mem six all =

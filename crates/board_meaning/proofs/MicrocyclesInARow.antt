@@ -11,12 +11,12 @@ use lib.ListN.{length}
 use Rattle.answers.specs.Ends.{is-done}
 use Rattle.answers.specs.Places.{first-place}
 use Rattle.micro_meaning.specs.declared.MicroState.{MicroState}
-use Rattle.micro_meaning.specs.Machine.{taken}
+use Rattle.micro_meaning.specs.Machine.{micro-unpacked}
 use Rattle.micro_meaning.specs.Run.{MicroCalled, bad-request, micro-test, run-on, answered, micro-refused, run}
 use Rattle.micro_meaning.proofs.RunKeeps.{call-six-bits}
 use Rattle.micro_meaning.proofs.RunTests.{fine}
 use Rattle.micro_meaning.proofs.RunsInARow.{given-back, in-a-row}
-use Rattle.board_meaning.specs.Board.{Left, board-microcycle}
+use Rattle.board_meaning.specs.Board.{BoardFound, board-microcycle}
 
 -- what a display shows
 pub record Shown : Type 0 where
@@ -26,13 +26,13 @@ pub record Shown : Type 0 where
   pub steps : ℕ
 
 -- a call, and then what the calls behind it show
-abbrev on-top : Left → Shown → Shown
-on-top left rest =
+abbrev on-top : BoardFound → Shown → Shown
+on-top call rest =
     record {
       board = rest .board;
       memory = rest .memory;
-      microcycles = left .answer .microcycles .count + rest .microcycles;
-      steps = left .answer .steps .count + rest .steps;
+      microcycles = call .answer .microcycles .count + rest .microcycles;
+      steps = call .answer .steps .count + rest .steps;
     }
 
 abbrev unmoved : MicroState → List ℕ → Shown
@@ -43,15 +43,15 @@ module _ (program : List ℕ) where
   pub one-by-one : MicroState → List ℕ → List ℕ → Shown
   one-by-one board mem [] = unmoved board mem
   one-by-one board mem (request ∷ rest) =
-      let left = board-microcycle board program mem request in
-      on-top left (one-by-one (left .board) (left .memory) rest)
+      let call = board-microcycle board program mem request in
+      on-top call (one-by-one (call .board) (call .memory) rest)
 
   -- .. and each of them is done
   pub all-done : MicroState → List ℕ → List ℕ → Type 0
   all-done board mem [] = Unit {0}
   all-done board mem (request ∷ rest) =
-      let left = board-microcycle board program mem request in
-      (eqb (left .answer .number) 0 ≡ true) × all-done (left .board) (left .memory) rest
+      let call = board-microcycle board program mem request in
+      (eqb (call .answer .number) 0 ≡ true) × all-done (call .board) (call .memory) rest
 
   abbrev shown-by : MicroCalled → Shown
   shown-by called =
@@ -69,7 +69,7 @@ module _ (program : List ℕ) where
     where
       by-test : (b : Bool)
           → unmoved board mem
-          ≡ shown-by (cond b (answered board (run-on program mem (taken board) 0 0 []))
+          ≡ shown-by (cond b (answered board (run-on program mem (micro-unpacked board) 0 0 []))
           (micro-refused (micro-test (length mem) program board []) board mem))
       by-test true = ap (λ (s : MicroState). unmoved s mem) (sym (given-back board six))
       by-test false = refl
@@ -81,7 +81,7 @@ module _ (program : List ℕ) where
   good-byte board mem request d = by-test (is-done (micro-test (length mem) program board (request ∷ []))) refl d
     where
       by-test : (b : Bool) → is-done (micro-test (length mem) program board (request ∷ [])) ≡ b
-          → is-done (cond b (answered board (run-on program mem (taken board) 0 0 (request ∷ [])))
+          → is-done (cond b (answered board (run-on program mem (micro-unpacked board) 0 0 (request ∷ [])))
           (micro-refused (micro-test (length mem) program board (request ∷ [])) board mem) .answer .end) ≡ true
           → first-place bad-request (request ∷ []) ≡ 1
       by-test true e d = fine (length mem) program board (request ∷ []) e .requests-good
@@ -92,8 +92,8 @@ module _ (program : List ℕ) where
   unfolding all-done first-place board-microcycle
   good-bytes [] board mem all = refl
   good-bytes (request ∷ rest) board mem all =
-      let left = board-microcycle board program mem request in
-      go (bad-request request) (good-byte board mem request (all .0)) (good-bytes rest (left .board) (left .memory) (all .1))
+      let call = board-microcycle board program mem request in
+      go (bad-request request) (good-byte board mem request (all .0)) (good-bytes rest (call .board) (call .memory) (all .1))
     where
       go : (b : Bool) → cond b 0 (suc 0) ≡ suc 0 → first-place bad-request rest ≡ length rest
           → cond b 0 (suc (first-place bad-request rest)) ≡ suc (length rest)

@@ -17,15 +17,15 @@ use Rattle.phase_meaning.specs.Tests.{machine-test}
 use Rattle.micro_meaning.specs.declared.MicroState.{MicroState}
 use Rattle.micro_meaning.specs.Run.{bad-request, micro-test}
 use Rattle.macro_meaning.specs.Run.{most-request, macro-test}
-use Rattle.board_meaning.specs.Board.{Left, board-microcycle, board-instruction}
+use Rattle.board_meaning.specs.Board.{BoardFound, board-microcycle, board-instruction}
 use Rattle.board_meaning.proofs.CallCases.{micro-tested, macro-tested, microcycle-cases, instruction-cases}
 
 abbrev among : List ℕ → ℕ → Bool
 among [] n = false
 among (k ∷ ks) n = cond (eqb n k) true (among ks n)
 
-abbrev AnswersAmong : List ℕ → Left → Type 0
-AnswersAmong numbers left = among numbers (left .answer .number) ≡ true
+abbrev AnswersAmong : List ℕ → BoardFound → Type 0
+AnswersAmong numbers call = among numbers (call .answer .number) ≡ true
 
 abbrev pub microcycle-numbers : List ℕ
 microcycle-numbers = 0 ∷ 1 ∷ 3 ∷ 4 ∷ 5 ∷ 6 ∷ 7 ∷ 8 ∷ []

@@ -5,13 +5,13 @@ use mathlib.Core.Bool.{false, false≢true}
 use mathlib.Core.List.{List}
 use lib.Dec.{eqb}
 use Rattle.micro_meaning.specs.declared.MicroState.{MicroState}
-use Rattle.board_meaning.specs.Board.{Left, board-microcycle, board-instruction}
+use Rattle.board_meaning.specs.Board.{BoardFound, board-microcycle, board-instruction}
 use Rattle.board_meaning.proofs.CallCases.{microcycle-cases, instruction-cases}
 
-abbrev pub RefusedAsLent : MicroState → List ℕ → Left → Type 0
-RefusedAsLent board mem left =
-    eqb (left .answer .number) 0 ≡ false
-    → (left .board ≡ board) × (left .memory ≡ mem) × (left .answer .microcycles .count ≡ 0) × (left .answer .steps .count ≡ 0)
+abbrev pub RefusedAsLent : MicroState → List ℕ → BoardFound → Type 0
+RefusedAsLent board mem call =
+    eqb (call .answer .number) 0 ≡ false
+    → (call .board ≡ board) × (call .memory ≡ mem) × (call .answer .microcycles .count ≡ 0) × (call .answer .steps .count ≡ 0)
 
 pub microcycle-refused : (board : MicroState) (program mem : List ℕ) (request : ℕ)
     → RefusedAsLent board mem (board-microcycle board program mem request)

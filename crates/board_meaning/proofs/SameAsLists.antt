@@ -14,14 +14,14 @@ use Rattle.micro_meaning.specs.Run as micro
 use Rattle.micro_call.specs.Runs.{state-words, avm-run}
 use Rattle.macro_meaning.specs.Run as macro
 use Rattle.macro_call.specs.Steps.{avm-steps}
-use Rattle.board_meaning.specs.Board.{Left, board-microcycle, board-instruction}
+use Rattle.board_meaning.specs.Board.{BoardFound, board-microcycle, board-instruction}
 
 -- a board's places as lists
-abbrev as-lists : Left → lists.Left
-as-lists left = lists.found (left .answer) (left .memory) (left .board .registers) (state-words (left .board))
+abbrev as-lists : BoardFound → lists.Found
+as-lists call = lists.found (call .answer) (call .memory) (call .board .registers) (state-words (call .board))
 
 module _ (board : MicroState) (mem : List ℕ) (request : ℕ) (all : length (board .registers) ≡ lists.register-count) where
-  abbrev listed-run : List ℕ → lists.Left
+  abbrev listed-run : List ℕ → lists.Found
   listed-run program = avm-run program mem (board .registers) (state-words board) (request ∷ [])
 
   pub same-as-avm-run : (program : List ℕ) → as-lists (board-microcycle board program mem request) ≡ listed-run program
@@ -32,7 +32,7 @@ module _ (board : MicroState) (mem : List ℕ) (request : ℕ) (all : length (bo
       by-length true e = rw (e, all)
       by-length false e = rw e
 
-  abbrev listed-steps : lists.Left
+  abbrev listed-steps : lists.Found
   listed-steps = avm-steps mem (board .registers) (state-words board) (request ∷ [])
 
   pub same-as-avm-steps : as-lists (board-instruction board mem request) ≡ listed-steps

@@ -11,22 +11,22 @@ use Rattle.macro_meaning.specs.Run as macro
 use Rattle.board_meaning.specs.declared.Moved.{Moved}
 
 -- what a call answers, and what it leaves
-pub record Left : Type 0 where
+pub record BoardFound : Type 0 where
   pub answer : Answer
   pub board : MicroState
   pub memory : List ℕ
 
 -- what is found after the call, place by place
-abbrev pub found : Answer → MicroState → List ℕ → Left
-found answer board mem = record { answer = answer; board = board; memory = mem }
+abbrev pub board-found : Answer → MicroState → List ℕ → BoardFound
+board-found answer board mem = record { answer = answer; board = board; memory = mem }
 
 -- .. and after a call that hands the board back by value
-abbrev pub left : Moved → List ℕ → Left
-left m mem = found (m .answer) (m .board) mem
+abbrev pub moved-found : Moved → List ℕ → BoardFound
+moved-found m mem = board-found (m .answer) (m .board) mem
 
 -- a call of the micro level, answered as every C call is
-abbrev pub micro-left : micro.MicroCalled → Left
-micro-left called =
+abbrev pub microcycle-found : micro.MicroCalled → BoardFound
+microcycle-found called =
     record {
       answer = answered (called .answer .end) (called .answer .microcycles) (called .answer .steps);
       board = called .answer .state;
@@ -34,8 +34,8 @@ micro-left called =
     }
 
 -- one microcycle: a run over one request byte
-unfoldable pub board-microcycle : MicroState → List ℕ → List ℕ → ℕ → Left
-board-microcycle board program mem request = micro-left (micro.run program mem board (request ∷ []))
+unfoldable pub board-microcycle : MicroState → List ℕ → List ℕ → ℕ → BoardFound
+board-microcycle board program mem request = microcycle-found (micro.run program mem board (request ∷ []))
 
 -- what the macro level sees of a board
 abbrev pub seen : MicroState → MacroState
@@ -56,8 +56,8 @@ shown-on board s =
     }
 
 -- a call of the macro level on what it sees of the board; it counts no microcycles
-abbrev pub macro-left : MicroState → macro.MacroCalled → Left
-macro-left board called =
+abbrev pub instruction-found : MicroState → macro.MacroCalled → BoardFound
+instruction-found board called =
     record {
       answer = answered (called .answer .end) (record { count = 0 }) (called .answer .steps);
       board = shown-on board (called .answer .state);
@@ -65,5 +65,5 @@ macro-left board called =
     }
 
 -- one instruction: a step over one request byte
-unfoldable pub board-instruction : MicroState → List ℕ → ℕ → Left
-board-instruction board mem request = macro-left board (macro.run mem (seen board) (request ∷ []))
+unfoldable pub board-instruction : MicroState → List ℕ → ℕ → BoardFound
+board-instruction board mem request = instruction-found board (macro.run mem (seen board) (request ∷ []))

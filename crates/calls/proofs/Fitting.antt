@@ -9,7 +9,7 @@ use lib.ListN.{length, replicate}
 use borrow.Author.Tests.{eq-eqb, ne-eqb}
 use Rattle.words.specs.Lengths.{legal-length}
 use Rattle.words.proofs.Cases.{turned, upright}
-use Rattle.calls.specs.Lending.{register-count, first-test, taken, given}
+use Rattle.calls.specs.Lending.{register-count, first-test, registers-in, registers-out}
 
 -- ---- the tests
 module _ (words count : ℕ) {legal : Bool} (l : legal ≡ legal-length words) where
@@ -26,21 +26,21 @@ module _ (words count : ℕ) {legal : Bool} (l : legal ≡ legal-length words) w
   both-passed h n = rw (← l, upright legal h, eq-eqb count register-count n)
 
 -- ---- in and out, by the count
-pub nothing-taken : (lent : List ℕ) → (length lent ≡ register-count → ⊥) → replicate register-count 0 ≡ taken lent
-unfolding taken
-nothing-taken lent n = rw (ne-eqb (length lent) register-count n)
+pub nothing-in : (lent : List ℕ) → (length lent ≡ register-count → ⊥) → replicate register-count 0 ≡ registers-in lent
+unfolding registers-in
+nothing-in lent n = rw (ne-eqb (length lent) register-count n)
 
-pub all-taken : (lent : List ℕ) → length lent ≡ register-count → lent ≡ taken lent
-unfolding taken
-all-taken lent n = rw (eq-eqb (length lent) register-count n)
+pub all-in : (lent : List ℕ) → length lent ≡ register-count → lent ≡ registers-in lent
+unfolding registers-in
+all-in lent n = rw (eq-eqb (length lent) register-count n)
 
-pub nothing-given : (registers lent : List ℕ) → (length lent ≡ register-count → ⊥) → lent ≡ given registers lent
-unfolding given
-nothing-given registers lent n = rw (ne-eqb (length lent) register-count n)
+pub nothing-out : (registers lent : List ℕ) → (length lent ≡ register-count → ⊥) → lent ≡ registers-out registers lent
+unfolding registers-out
+nothing-out registers lent n = rw (ne-eqb (length lent) register-count n)
 
-pub all-given : (registers lent : List ℕ) → length lent ≡ register-count → registers ≡ given registers lent
-unfolding given
-all-given registers lent n = rw (eq-eqb (length lent) register-count n)
+pub all-out : (registers lent : List ℕ) → length lent ≡ register-count → registers ≡ registers-out registers lent
+unfolding registers-out
+all-out registers lent n = rw (eq-eqb (length lent) register-count n)
 
 -- ---- behind the tests
 module _ (words : ℕ) (lent : List ℕ) where
@@ -49,10 +49,10 @@ module _ (words : ℕ) (lent : List ℕ) where
   counted true false e = absurd (omega (arith, e))
   counted false same e = absurd (omega (arith, e))
 
-  pub taken-whole : first-test words (length lent) ≡ 0 → taken lent ≡ lent
-  unfolding first-test taken
-  taken-whole passed = rw (counted (legal-length words) (eqb (length lent) register-count) passed)
+  pub registers-in-whole : first-test words (length lent) ≡ 0 → registers-in lent ≡ lent
+  unfolding first-test registers-in
+  registers-in-whole passed = rw (counted (legal-length words) (eqb (length lent) register-count) passed)
 
-  pub given-whole : first-test words (length lent) ≡ 0 → (registers : List ℕ) → given registers lent ≡ registers
-  unfolding first-test given
-  given-whole passed registers = rw (counted (legal-length words) (eqb (length lent) register-count) passed)
+  pub registers-out-whole : first-test words (length lent) ≡ 0 → (registers : List ℕ) → registers-out registers lent ≡ registers
+  unfolding first-test registers-out
+  registers-out-whole passed registers = rw (counted (legal-length words) (eqb (length lent) register-count) passed)

@@ -18,26 +18,26 @@ unfoldable pub first-test : ℕ → ℕ → ℕ
 first-test words count = cond (legal-length words) (cond (eqb count register-count) 0 2) 1
 
 -- lent registers as a value
-unfoldable pub taken : List ℕ → List ℕ
-taken lent = cond (eqb (length lent) register-count) lent (replicate register-count 0)
+unfoldable pub registers-in : List ℕ → List ℕ
+registers-in lent = cond (eqb (length lent) register-count) lent (replicate register-count 0)
 
 -- .. and back: what the lent place holds then
-unfoldable pub given : List ℕ → List ℕ → List ℕ
-given registers lent = cond (eqb (length lent) register-count) registers lent
+unfoldable pub registers-out : List ℕ → List ℕ → List ℕ
+registers-out registers lent = cond (eqb (length lent) register-count) registers lent
 
 -- what avm_run and avm_steps answer and leave
-pub record Left : Type 0 where
+pub record Found : Type 0 where
   pub answer : Answer
   pub memory : List ℕ
   pub registers : List ℕ
   pub state : List ℕ
 
 -- what is found after the call, place by place
-abbrev pub found : Answer → List ℕ → List ℕ → List ℕ → Left
+abbrev pub found : Answer → List ℕ → List ℕ → List ℕ → Found
 found answer mem registers state = record { answer = answer; memory = mem; registers = registers; state = state }
 
 -- 1 and 2, with everything as lent; then the rest
-abbrev pub tested-first : List ℕ → List ℕ → List ℕ → Left → Left
+abbrev pub tested-first : List ℕ → List ℕ → List ℕ → Found → Found
 tested-first mem registers state rest =
     let number = first-test (length mem) (length registers) in
     cond (eqb number 0) rest (found (refused number) mem registers state)

@@ -3,7 +3,7 @@
 ghost use mathlib.Core.Path.{_≡_};
 ghost use lib.ListN.{length};
 ghost use Rattle.calls.specs.Answers.{refused, answered};
-ghost use Rattle.calls.specs.Lending.{first-test, taken, given};
+ghost use Rattle.calls.specs.Lending.{first-test, registers-in, registers-out};
 use answers::End;
 use answers::Microcycles;
 use answers::Steps;
@@ -84,8 +84,8 @@ fn copy_to(to: &mut [u32], registers: [u32; 32])
 }
 
 // The registers as a value.
-pub fn take(from: &[u32]) -> [u32; 32]
-    ensures { λ r. ⌜ r ≡ taken (now (from .entry)) ⌝ }
+pub fn registers_in(from: &[u32]) -> [u32; 32]
+    ensures { λ r. ⌜ r ≡ registers-in (now (from .entry)) ⌝ }
 {
     if from.len() != 32 {
         return [0u32; 32];
@@ -94,8 +94,8 @@ pub fn take(from: &[u32]) -> [u32; 32]
 }
 
 // The registers back to where they were lent.
-pub fn give(to: &mut [u32], registers: [u32; 32])
-    ensures { λ _. ⌜ now (to .exit) ≡ given registers (now (to .entry)) ⌝ }
+pub fn registers_out(to: &mut [u32], registers: [u32; 32])
+    ensures { λ _. ⌜ now (to .exit) ≡ registers-out registers (now (to .entry)) ⌝ }
 {
     if to.len() == 32 {
         copy_to(to, registers);

@@ -26,7 +26,7 @@ use Rattle.phase_meaning.specs.Phases.{interrupt}
 use Rattle.micro_meaning.specs.declared.MicroMachine.{MicroMachine}
 use Rattle.micro_meaning.specs.Microcycle.{next-address, microcycle, micro-store, leaves}
 use Rattle.micro_meaning.specs.declared.MicroState.{MicroState}
-use Rattle.micro_meaning.specs.Machine.{taken}
+use Rattle.micro_meaning.specs.Machine.{micro-unpacked}
 use Rattle.micro_meaning.specs.Run.{RanOn, at-fetch, run-on, MicroCalled, micro-test, answered, micro-refused, run}
 use Rattle.micro_meaning.proofs.RunInduction.{goes-on}
 use Rattle.micro_meaning.proofs.RunJoins.{joined}
@@ -184,14 +184,14 @@ module _ (program : List ℕ) {n : ℕ} (accepted : Accepted program n) where
     test = micro-test (length mem) program s requests
 
     by-test : Bool → MicroCalled
-    by-test b = cond b (answered s (run-on program mem (taken s) 0 0 requests)) (micro-refused test s mem)
+    by-test b = cond b (answered s (run-on program mem (micro-unpacked s) 0 0 requests)) (micro-refused test s mem)
 
     pub call-ends-as-tested : run program mem s requests .answer .end ≡ micro-test (length mem) program s requests
     unfolding run test by-test
     call-ends-as-tested = ends (is-done test) refl
       where
         ends : (b : Bool) → is-done test ≡ b → by-test b .answer .end ≡ test
-        ends true t = never-refused mem (taken s) at-first requests ∙ sym (only-done-is-done test t)
+        ends true t = never-refused mem (micro-unpacked s) at-first requests ∙ sym (only-done-is-done test t)
         ends false t = refl
 
     pub call-never-8 : shown (run program mem s requests .answer .end) .number ≤ 7
@@ -201,4 +201,4 @@ module _ (program : List ℕ) {n : ℕ} (accepted : Accepted program n) where
         → 1 ≤ run program mem s requests .answer .steps .count
     unfolding run test by-test
     call-back-in-time passed h =
-        subst (λ (b : Bool). 1 ≤ by-test b .answer .steps .count) (sym passed) (back-in-time mem (taken s) at-first requests h)
+        subst (λ (b : Bool). 1 ≤ by-test b .answer .steps .count) (sym passed) (back-in-time mem (micro-unpacked s) at-first requests h)

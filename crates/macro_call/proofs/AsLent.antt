@@ -6,29 +6,29 @@ use mathlib.Core.List.{List, [], _∷_}
 use lib.Dec.{eqb}
 use lib.ListN.{length}
 use Rattle.answers.specs.Ends.{is-done}
-use Rattle.macro_meaning.specs.Machine.{taken}
+use Rattle.macro_meaning.specs.Machine.{macro-unpacked}
 use Rattle.macro_meaning.specs.Run.{MacroCalled, macro-test, steps, macro-done, macro-refused, run}
 use Rattle.calls.specs.Answers.{refused}
-use Rattle.calls.specs.Lending.{Left, first-test, found}
-use Rattle.macro_call.specs.Steps.{macro-state, steps-left, avm-steps}
+use Rattle.calls.specs.Lending.{Found, first-test, found}
+use Rattle.macro_call.specs.Steps.{macro-state, steps-found, avm-steps}
 
 module _ (mem registers requests : List ℕ) (psw pc ir mar mbr mpc ivec : ℕ) where
   abbrev pub state : List ℕ
   state = psw ∷ pc ∷ ir ∷ mar ∷ mbr ∷ mpc ∷ ivec ∷ []
 
-  pub record AsLent (left : Left) : Type 0 where
-    pub memory : left .memory ≡ mem
-    pub registers-kept : left .registers ≡ registers
-    pub state-kept : left .state ≡ state
+  pub record AsLent (call : Found) : Type 0 where
+    pub memory : call .memory ≡ mem
+    pub registers-kept : call .registers ≡ registers
+    pub state-kept : call .state ≡ state
 
   -- by the outcomes of the tests: the call's own number, then the level's
   abbrev called : Bool → MacroCalled
   called good =
-      cond good (macro-done (length requests) (steps mem (taken (macro-state registers state)) requests))
+      cond good (macro-done (length requests) (steps mem (macro-unpacked (macro-state registers state)) requests))
       (macro-refused (macro-test (length mem) (macro-state registers state) requests) (macro-state registers state) mem)
 
-  abbrev by-tests : ℕ → Bool → Bool → Left
-  by-tests number passed good = cond passed (steps-left (called good) state) (found (refused number) mem registers state)
+  abbrev by-tests : ℕ → Bool → Bool → Found
+  by-tests number passed good = cond passed (steps-found (called good) state) (found (refused number) mem registers state)
 
   as-lent : (number : ℕ) (passed good : Bool) → (by-tests number passed good .answer .number ≡ 0 → ⊥) → AsLent (by-tests number passed good)
   as-lent number true true refusal = absurd (refusal refl)

@@ -9,8 +9,8 @@ use Rattle.macro_meaning.specs.declared.MacroAnswer.{MacroAnswer}
 use Rattle.macro_meaning.specs.Run.{run}
 use Rattle.calls.specs.declared.Answer.{Answer}
 use Rattle.calls.specs.Answers.{refused, answered}
-use Rattle.calls.specs.Lending.{first-test, taken, given, found}
-use Rattle.calls.proofs.Fitting.{taken-whole, given-whole}
+use Rattle.calls.specs.Lending.{first-test, registers-in, registers-out, found}
+use Rattle.calls.proofs.Fitting.{registers-in-whole, registers-out-whole}
 use Rattle.macro_call.specs.Steps.{macro-state, macro-words, avm-steps}
 
 module _ (mem registers state requests : List ℕ) {number : ℕ} (t : number ≡ first-test (length mem) (length registers)) where
@@ -21,11 +21,11 @@ module _ (mem registers state requests : List ℕ) {number : ℕ} (t : number �
 
   pub steps-done : number ≡ 0
       → {file : List ℕ} {lent : MacroState} {answer : MacroAnswer} {after registers′ state′ : List ℕ} {shown : Answer}
-      → file ≡ taken registers → lent ≡ macro-state file state → answer ≡ run mem lent requests .answer
-      → after ≡ run mem lent requests .memory → registers′ ≡ given (answer .state .registers) registers
+      → file ≡ registers-in registers → lent ≡ macro-state file state → answer ≡ run mem lent requests .answer
+      → after ≡ run mem lent requests .memory → registers′ ≡ registers-out (answer .state .registers) registers
       → state′ ≡ macro-words (answer .state) state → shown ≡ answered (answer .end) (record { count = 0 }) (answer .steps)
       → found shown after registers′ state′ ≡ avm-steps mem registers state requests
   unfolding avm-steps
   steps-done n f l a m r w o =
       let passed = sym t ∙ n in
-      rw (o, w, r, given-whole (length mem) registers passed, a, m, l, f, taken-whole (length mem) registers passed, ← t, eq-eqb number 0 n)
+      rw (o, w, r, registers-out-whole (length mem) registers passed, a, m, l, f, registers-in-whole (length mem) registers passed, ← t, eq-eqb number 0 n)

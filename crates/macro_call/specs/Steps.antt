@@ -5,7 +5,7 @@ use lib.ListN.{getD}
 use Rattle.macro_meaning.specs.declared.MacroState.{MacroState}
 use Rattle.macro_meaning.specs.Run.{MacroCalled, run}
 use Rattle.calls.specs.Answers.{answered}
-use Rattle.calls.specs.Lending.{Left, tested-first}
+use Rattle.calls.specs.Lending.{Found, tested-first}
 
 -- PSW, PC and vector are taken from the state words
 abbrev pub macro-state : List ℕ → List ℕ → MacroState
@@ -15,8 +15,8 @@ macro-state registers state = record { registers = registers; psw = getD state 0
 abbrev pub macro-words : MacroState → List ℕ → List ℕ
 macro-words s state = s .psw ∷ s .pc ∷ getD state 2 0 ∷ getD state 3 0 ∷ getD state 4 0 ∷ getD state 5 0 ∷ s .ivec ∷ []
 
-abbrev pub steps-left : MacroCalled → List ℕ → Left
-steps-left called state =
+abbrev pub steps-found : MacroCalled → List ℕ → Found
+steps-found called state =
     record {
       answer = answered (called .answer .end) (record { count = 0 }) (called .answer .steps);
       memory = called .memory;
@@ -24,6 +24,6 @@ steps-left called state =
       state = macro-words (called .answer .state) state;
     }
 
-unfoldable pub avm-steps : List ℕ → List ℕ → List ℕ → List ℕ → Left
+unfoldable pub avm-steps : List ℕ → List ℕ → List ℕ → List ℕ → Found
 avm-steps mem registers state requests =
-    tested-first mem registers state (steps-left (run mem (macro-state registers state) requests) state)
+    tested-first mem registers state (steps-found (run mem (macro-state registers state) requests) state)

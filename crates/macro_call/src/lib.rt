@@ -41,13 +41,13 @@ pub fn steps(
     if number != 0 {
         return refuse(number);
     }
-    let lent = macro_state(calls::take(registers), state);
+    let lent = macro_state(calls::registers_in(registers), state);
     let called = macro_level::run::run(memory, lent, requests);
     let end = called.end;
     let steps = called.steps;
     let after = called.state;
     let file = after.registers;
-    calls::give(registers, file);
+    calls::registers_out(registers, file);
     *state = macro_words(after, state);
     let microcycles = Microcycles { count: 0 };
     answer_of(end, microcycles, steps)

@@ -1,6 +1,6 @@
 // A run: one step for each request byte.
 ghost use mathlib.Core.Path.{_≡_};
-ghost use Rattle.macro_meaning.specs.Machine.{taken, given};
+ghost use Rattle.macro_meaning.specs.Machine.{macro-unpacked, macro-packed};
 ghost use Rattle.macro_meaning.specs.Run.{macro-test, steps, run};
 use crate::step::step;
 use answers::End;
@@ -10,8 +10,8 @@ use macro_meaning::MacroMachine;
 use macro_meaning::MacroState;
 
 // The PSW's other bits are dropped.
-fn take(s: MacroState) -> MacroMachine
-    ensures { λ r. ⌜ r ≡ taken s ⌝ }
+fn unpack(s: MacroState) -> MacroMachine
+    ensures { λ r. ⌜ r ≡ macro-unpacked s ⌝ }
 {
     let registers = s.registers;
     let psw = status::psw::from_word(s.psw);
@@ -23,8 +23,8 @@ fn take(s: MacroState) -> MacroMachine
     }
 }
 
-fn give(m: MacroMachine) -> MacroState
-    ensures { λ r. ⌜ r ≡ given m ⌝ }
+fn pack(m: MacroMachine) -> MacroState
+    ensures { λ r. ⌜ r ≡ macro-packed m ⌝ }
 {
     let registers = m.registers;
     let psw = status::psw::to_word(m.psw);
@@ -79,8 +79,8 @@ pub fn run(memory: &mut [u32], s: MacroState, requests: &[u8]) -> MacroAnswer
             state: s,
         };
     }
-    let machine = stepped(memory, take(s), requests);
-    let state = give(machine);
+    let machine = stepped(memory, unpack(s), requests);
+    let state = pack(machine);
     let end = End::Done;
     let steps = Steps {
         count: requests.len() as u64,

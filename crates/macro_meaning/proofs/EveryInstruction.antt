@@ -22,17 +22,17 @@ use Rattle.macro_meaning.specs.Instructions.{jmp, call, int, eint, rti, 
 
 -- ---- words computed from words
 
-left : (a : ℕ) → shl a < 2 ^ 32
+shl-fits : (a : ℕ) → shl a < 2 ^ 32
 unfolding shl wordn
-left a = omega arith
+shl-fits a = omega arith
 
-right : (a : ℕ) → a < 2 ^ 32 → shr a < 2 ^ 32
+shr-fits : (a : ℕ) → a < 2 ^ 32 → shr a < 2 ^ 32
 unfolding shr
-right a h = omega arith
+shr-fits a h = omega arith
 
-right-signed : (a : ℕ) → a < 2 ^ 32 → asr a < 2 ^ 32
+asr-fits : (a : ℕ) → a < 2 ^ 32 → asr a < 2 ^ 32
 unfolding asr
-right-signed a h = omega (arith, num-le (msb a))
+asr-fits a h = omega (arith, num-le (msb a))
 
 both : (a b : ℕ) → a < 2 ^ 32 → bitAnd a b < 2 ^ 32
 both a b h = lt-of-le-of-lt (and-le-l a b) h
@@ -41,7 +41,7 @@ complement : (a : ℕ) → bnot a < 2 ^ 32
 unfolding bnot
 complement a = omega arith
 
-ruleset words = (left, right, right-signed, both, or-lt, xor-lt, complement)
+ruleset words = (shl-fits, shr-fits, asr-fits, both, or-lt, xor-lt, complement)
 
 -- ---- the kinds
 

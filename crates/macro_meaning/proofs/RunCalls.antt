@@ -10,7 +10,7 @@ use Rattle.answers.specs.declared.End.the-variants.{Done}
 use Rattle.answers.specs.Ends.{is-done}
 use Rattle.macro_meaning.specs.declared.MacroState.{MacroState}
 use Rattle.macro_meaning.specs.declared.MacroMachine.{MacroMachine}
-use Rattle.macro_meaning.specs.Machine.{taken, given}
+use Rattle.macro_meaning.specs.Machine.{macro-unpacked, macro-packed}
 use Rattle.macro_meaning.specs.Run.{macro-test, steps, macro-refused, run}
 
 module _ (mem : List ℕ) (s : MacroState) (requests : List ℕ) {test : End} {done : Bool}
@@ -20,7 +20,7 @@ module _ (mem : List ℕ) (s : MacroState) (requests : List ℕ) {test : End} {d
   refused h = rw (← e, ← d, turned done h)
 
   pub ran : not done ≡ false → {machine after : MacroMachine} {state : MacroState} {memory : List ℕ}
-      → machine ≡ taken s → after ≡ steps mem machine requests .machine → memory ≡ steps mem machine requests .memory → state ≡ given after
+      → machine ≡ macro-unpacked s → after ≡ steps mem machine requests .machine → memory ≡ steps mem machine requests .memory → state ≡ macro-packed after
       → run mem s requests ≡ record { answer = record { end = Done; steps = record { count = length requests }; state = state }; memory = memory }
   unfolding run
   ran h t r m g = rw (g, m, r, t, ← e, ← d, upright done h)

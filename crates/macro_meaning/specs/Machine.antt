@@ -5,8 +5,8 @@ use Rattle.macro_meaning.specs.declared.MacroState.{MacroState}
 use Rattle.macro_meaning.specs.declared.MacroMachine.{MacroMachine}
 
 -- the PSW's other bits are dropped
-abbrev pub taken : MacroState → MacroMachine
-taken s = record { registers = s .registers; psw = get-psw (s .psw); pc = s .pc; ivec = s .ivec }
+abbrev pub macro-unpacked : MacroState → MacroMachine
+macro-unpacked s = record { registers = s .registers; psw = get-psw (s .psw); pc = s .pc; ivec = s .ivec }
 
-abbrev pub given : MacroMachine → MacroState
-given m = record { registers = m .registers; psw = mk-psw (m .psw); pc = m .pc; ivec = m .ivec }
+abbrev pub macro-packed : MacroMachine → MacroState
+macro-packed m = record { registers = m .registers; psw = mk-psw (m .psw); pc = m .pc; ivec = m .ivec }

@@ -14,7 +14,7 @@ use Rattle.answers.specs.Tests.{lent-test}
 use Rattle.macro_meaning.specs.declared.MacroState.{MacroState}
 use Rattle.macro_meaning.specs.declared.MacroMachine.{MacroMachine}
 use Rattle.macro_meaning.specs.declared.MacroAnswer.{MacroAnswer}
-use Rattle.macro_meaning.specs.Machine.{taken, given}
+use Rattle.macro_meaning.specs.Machine.{macro-unpacked, macro-packed}
 use Rattle.macro_meaning.specs.Step.{Macro, step}
 
 -- the largest request byte: there is no reset at this level
@@ -48,9 +48,9 @@ macro-refused end s mem = record { answer = record { end = end; steps = record {
 -- as many steps as bytes
 abbrev pub macro-done : ℕ → Macro → MacroCalled
 macro-done count after =
-    record { answer = record { end = Done; steps = record { count = count }; state = given (after .machine) }; memory = after .memory }
+    record { answer = record { end = Done; steps = record { count = count }; state = macro-packed (after .machine) }; memory = after .memory }
 
 unfoldable pub run : List ℕ → MacroState → List ℕ → MacroCalled
 run mem s requests =
     let test = macro-test (length mem) s requests in
-    cond (is-done test) (macro-done (length requests) (steps mem (taken s) requests)) (macro-refused test s mem)
+    cond (is-done test) (macro-done (length requests) (steps mem (macro-unpacked s) requests)) (macro-refused test s mem)

@@ -9,8 +9,8 @@ use Rattle.micro_meaning.specs.declared.MicroAnswer.{MicroAnswer}
 use Rattle.micro_meaning.specs.Run.{run}
 use Rattle.calls.specs.declared.Answer.{Answer}
 use Rattle.calls.specs.Answers.{refused, answered}
-use Rattle.calls.specs.Lending.{first-test, taken, given, found}
-use Rattle.calls.proofs.Fitting.{taken-whole, given-whole}
+use Rattle.calls.specs.Lending.{first-test, registers-in, registers-out, found}
+use Rattle.calls.proofs.Fitting.{registers-in-whole, registers-out-whole}
 use Rattle.micro_call.specs.Runs.{micro-state, state-words, avm-run}
 
 module _ (program mem registers state requests : List ℕ) {number : ℕ} (t : number ≡ first-test (length mem) (length registers)) where
@@ -21,11 +21,11 @@ module _ (program mem registers state requests : List ℕ) {number : ℕ} (t : n
 
   pub run-done : number ≡ 0
       → {file : List ℕ} {lent : MicroState} {answer : MicroAnswer} {after registers′ state′ : List ℕ} {shown : Answer}
-      → file ≡ taken registers → lent ≡ micro-state file state → answer ≡ run program mem lent requests .answer
-      → after ≡ run program mem lent requests .memory → registers′ ≡ given (answer .state .registers) registers
+      → file ≡ registers-in registers → lent ≡ micro-state file state → answer ≡ run program mem lent requests .answer
+      → after ≡ run program mem lent requests .memory → registers′ ≡ registers-out (answer .state .registers) registers
       → state′ ≡ state-words (answer .state) → shown ≡ answered (answer .end) (answer .microcycles) (answer .steps)
       → found shown after registers′ state′ ≡ avm-run program mem registers state requests
   unfolding avm-run
   run-done n f l a m r w o =
       let passed = sym t ∙ n in
-      rw (o, w, r, given-whole (length mem) registers passed, a, m, l, f, taken-whole (length mem) registers passed, ← t, eq-eqb number 0 n)
+      rw (o, w, r, registers-out-whole (length mem) registers passed, a, m, l, f, registers-in-whole (length mem) registers passed, ← t, eq-eqb number 0 n)

@@ -5,7 +5,7 @@ use lib.ListN.{getD}
 use Rattle.micro_meaning.specs.declared.MicroState.{MicroState}
 use Rattle.micro_meaning.specs.Run.{MicroCalled, run}
 use Rattle.calls.specs.Answers.{answered}
-use Rattle.calls.specs.Lending.{Left, tested-first}
+use Rattle.calls.specs.Lending.{Found, tested-first}
 
 -- the state words in the header's order: PSW, PC, IR, MAR, MBR, MPC, vector
 abbrev pub micro-state : List ℕ → List ℕ → MicroState
@@ -24,8 +24,8 @@ micro-state registers state =
 abbrev pub state-words : MicroState → List ℕ
 state-words s = s .psw ∷ s .pc ∷ s .ir ∷ s .mar ∷ s .mbr ∷ s .mpc ∷ s .ivec ∷ []
 
-abbrev pub run-left : MicroCalled → Left
-run-left called =
+abbrev pub run-found : MicroCalled → Found
+run-found called =
     record {
       answer = answered (called .answer .end) (called .answer .microcycles) (called .answer .steps);
       memory = called .memory;
@@ -33,6 +33,6 @@ run-left called =
       state = state-words (called .answer .state);
     }
 
-unfoldable pub avm-run : List ℕ → List ℕ → List ℕ → List ℕ → List ℕ → Left
+unfoldable pub avm-run : List ℕ → List ℕ → List ℕ → List ℕ → List ℕ → Found
 avm-run program mem registers state requests =
-    tested-first mem registers state (run-left (run program mem (micro-state registers state) requests))
+    tested-first mem registers state (run-found (run program mem (micro-state registers state) requests))

@@ -46,14 +46,14 @@ pub fn run(
     if number != 0 {
         return refuse(number);
     }
-    let lent = micro_state(calls::take(registers), state);
+    let lent = micro_state(calls::registers_in(registers), state);
     let called = micro_level::run(program, memory, lent, requests);
     let end = called.end;
     let microcycles = called.microcycles;
     let steps = called.steps;
     let after = called.state;
     let file = after.registers;
-    calls::give(registers, file);
+    calls::registers_out(registers, file);
     *state = state_words(after);
     answer_of(end, microcycles, steps)
 }

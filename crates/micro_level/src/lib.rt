@@ -1,7 +1,7 @@
 // The micro level: a run of one microcycle for each request byte. Every function is total; the crate
 // micro_meaning says what each answers.
 ghost use mathlib.Core.Path.{_≡_};
-ghost use Rattle.micro_meaning.specs.Machine.{taken, given};
+ghost use Rattle.micro_meaning.specs.Machine.{micro-unpacked, micro-packed};
 ghost use Rattle.micro_meaning.specs.Run.{micro-test, answer-of, run};
 use answers::End;
 use answers::Microcycles;
@@ -15,8 +15,8 @@ mod microcycle;
 mod run_loop;
 
 // The PSW's other bits are dropped.
-fn take(s: MicroState) -> MicroMachine
-    ensures { λ r. ⌜ r ≡ taken s ⌝ }
+fn unpack(s: MicroState) -> MicroMachine
+    ensures { λ r. ⌜ r ≡ micro-unpacked s ⌝ }
 {
     let registers = s.registers;
     let psw = status::psw::from_word(s.psw);
@@ -32,8 +32,8 @@ fn take(s: MicroState) -> MicroMachine
     }
 }
 
-fn give(m: MicroMachine) -> MicroState
-    ensures { λ r. ⌜ r ≡ given m ⌝ }
+fn pack(m: MicroMachine) -> MicroState
+    ensures { λ r. ⌜ r ≡ micro-packed m ⌝ }
 {
     let registers = m.registers;
     let psw = status::psw::to_word(m.psw);
@@ -86,7 +86,7 @@ fn answer(s: MicroState, ran: Ran) -> MicroAnswer
             state: s,
         };
     }
-    let state = give(machine);
+    let state = pack(machine);
     MicroAnswer {
         end: end,
         microcycles: microcycles,
@@ -110,6 +110,6 @@ pub fn run(program: &[u64], memory: &mut [u32], s: MicroState, requests: &[u8]) 
             state: s,
         };
     }
-    let ran = run_loop::run_on(program, memory, take(s), requests);
+    let ran = run_loop::run_on(program, memory, unpack(s), requests);
     answer(s, ran)
 }

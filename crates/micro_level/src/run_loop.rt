@@ -95,7 +95,7 @@ fn advance(
     let next = microcycle::next(word, core, request);
     if program.len() <= next as usize {
         return Advanced {
-            left: true,
+            leaves: true,
             core: core,
         };
     }
@@ -106,7 +106,7 @@ fn advance(
     put(registers, done.register, done.value);
     apply(memory, store);
     Advanced {
-        left: false,
+        leaves: false,
         core: after,
     }
 }
@@ -122,10 +122,10 @@ pub fn run_on(program: &[u64], memory: &mut [u32], s: MicroMachine, requests: &[
     let mut at: usize = 0;
     while at < requests.len() {
         let advanced = advance(program, memory, &mut registers, core, requests[at]);
-        let left = advanced.left;
+        let leaves = advanced.leaves;
         let next = advanced.core;
         let mpc = next.mpc;
-        if left {
+        if leaves {
             let end = End::NextAddress;
             let completed = Microcycles { count: at as u64 };
             let returned = Steps { count: returns };

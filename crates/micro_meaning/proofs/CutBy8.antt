@@ -20,7 +20,7 @@ use Rattle.answers.proofs.FirstPlace.{none-in-front}
 use Rattle.control_store.specs.ControlStore.{legal-store-length, lowest-illegal, store-test}
 use Rattle.phase_meaning.specs.Tests.{machine-test}
 use Rattle.micro_meaning.specs.declared.MicroState.{MicroState}
-use Rattle.micro_meaning.specs.Machine.{taken, given}
+use Rattle.micro_meaning.specs.Machine.{micro-unpacked, micro-packed}
 use Rattle.micro_meaning.specs.Run.{RanOn, MicroCalled, bad-request, micro-test, run-on, answered, micro-refused, run}
 use Rattle.micro_meaning.proofs.RunJoins.{cut, unmoved}
 use Rattle.micro_meaning.proofs.RunTests.{Fine, fine}
@@ -53,7 +53,7 @@ tests-never-8 words program s requests e =
 
 module _ (program mem : List ℕ) (s : MicroState) (requests : List ℕ) where
   abbrev whole : RanOn
-  whole = run-on program mem (taken s) 0 0 requests
+  whole = run-on program mem (micro-unpacked s) 0 0 requests
 
   -- the call's tests passed, and its run was not done
   cut-short : shown (run program mem s requests .answer .end) .number ≡ 8 → Fine (length mem) program s requests × (is-done (whole .ran .end) ≡ false)
@@ -75,16 +75,16 @@ module _ (program mem : List ℕ) (s : MicroState) (requests : List ℕ) where
               end = Done;
               microcycles = called .answer .microcycles;
               steps = called .answer .steps;
-              state = cond (eqb (called .answer .microcycles .count) 0) (given (taken s)) (called .answer .state);
+              state = cond (eqb (called .answer .microcycles .count) 0) (micro-packed (micro-unpacked s)) (called .answer .state);
             };
         memory = called .memory;
       }
 
-  state-then : is-done (whole .ran .end) ≡ false → given (whole .ran .machine) ≡ shorter (answered s whole) .answer .state
+  state-then : is-done (whole .ran .end) ≡ false → micro-packed (whole .ran .machine) ≡ shorter (answered s whole) .answer .state
   state-then d = rw d (by-count (eqb (whole .ran .microcycles .count) 0) refl)
     where
-      by-count : (b : Bool) → eqb (whole .ran .microcycles .count) 0 ≡ b → given (whole .ran .machine) ≡ cond b (given (taken s)) (cond b s (given (whole .ran .machine)))
-      by-count true e = ap given (unmoved program requests mem (taken s) 0 0 (eqb-true (whole .ran .microcycles .count) 0 e))
+      by-count : (b : Bool) → eqb (whole .ran .microcycles .count) 0 ≡ b → micro-packed (whole .ran .machine) ≡ cond b (micro-packed (micro-unpacked s)) (cond b s (micro-packed (whole .ran .machine)))
+      by-count true e = ap micro-packed (unmoved program requests mem (micro-unpacked s) 0 0 (eqb-true (whole .ran .microcycles .count) 0 e))
       by-count false e = refl
 
   pub cut-by-8 : shown (run program mem s requests .answer .end) .number ≡ 8
@@ -96,7 +96,7 @@ module _ (program mem : List ℕ) (s : MicroState) (requests : List ℕ) where
       = record { lent = was .0 .lent; inside = was .0 .inside; requests-good = none-in-front bad-request k requests (was .0 .requests-good) } in
       subst (λ (called : MicroCalled). run program mem s (take (called .answer .microcycles .count) requests) ≡ shorter called) (sym (as-run program mem s requests (was .0)))
       (as-run program mem s (take k requests) front
-      ∙ ap (answered s) (cut program requests mem (taken s) 0 0 k (was .1) (sym (zero-add k)))
+      ∙ ap (answered s) (cut program requests mem (micro-unpacked s) 0 0 k (was .1) (sym (zero-add k)))
       ∙ ap (λ (state : MicroState). record {
         answer = record { end = Done; microcycles = whole .ran .microcycles; steps = whole .ran .steps; state = state };
         memory = whole .memory;

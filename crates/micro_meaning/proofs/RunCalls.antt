@@ -11,7 +11,7 @@ use Rattle.micro_meaning.specs.declared.MicroState.{MicroState}
 use Rattle.micro_meaning.specs.declared.MicroMachine.{MicroMachine}
 use Rattle.micro_meaning.specs.declared.Ran.{Ran}
 use Rattle.micro_meaning.specs.declared.MicroAnswer.{MicroAnswer}
-use Rattle.micro_meaning.specs.Machine.{taken}
+use Rattle.micro_meaning.specs.Machine.{micro-unpacked}
 use Rattle.micro_meaning.specs.Run.{micro-test, run-on, answer-of, micro-refused, run}
 
 module _ (program mem : List ℕ) (s : MicroState) (requests : List ℕ) {test : End} {done : Bool}
@@ -21,7 +21,7 @@ module _ (program mem : List ℕ) (s : MicroState) (requests : List ℕ) {test :
   refused h = rw (← e, ← d, turned done h)
 
   pub ran : not done ≡ false → {machine : MicroMachine} {through : Ran} {answer : MicroAnswer} {after : List ℕ}
-      → machine ≡ taken s → through ≡ run-on program mem machine 0 0 requests .ran → after ≡ run-on program mem machine 0 0 requests .memory
+      → machine ≡ micro-unpacked s → through ≡ run-on program mem machine 0 0 requests .ran → after ≡ run-on program mem machine 0 0 requests .memory
       → answer ≡ answer-of s through → run program mem s requests ≡ record { answer = answer; memory = after }
   unfolding run
   ran h t r m a = rw (a, m, r, t, ← e, ← d, upright done h)

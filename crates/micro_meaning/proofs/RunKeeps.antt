@@ -16,7 +16,7 @@ use Rattle.blocks.proofs.MemoryWords.{length-kept as memory-length-kept}
 use Rattle.datapath.proofs.Targets.{by-the-rule}
 use Rattle.micro_meaning.specs.declared.MicroState.{MicroState}
 use Rattle.micro_meaning.specs.declared.MicroMachine.{MicroMachine}
-use Rattle.micro_meaning.specs.Machine.{taken, given}
+use Rattle.micro_meaning.specs.Machine.{micro-unpacked, micro-packed}
 use Rattle.micro_meaning.specs.Microcycle.{microcycle, micro-store, leaves, next-address}
 use Rattle.micro_meaning.specs.Run.{MicroCalled, at-fetch, micro-test, run-on, untouched, answered, micro-refused, run}
 use Rattle.micro_meaning.proofs.RunInduction.{kept-through}
@@ -73,18 +73,18 @@ module _ (program requests mem : List ℕ) (s : MicroMachine) (done returns : �
 module _ (program mem : List ℕ) (s : MicroState) (requests : List ℕ) where
   -- a call by the outcome of its tests
   abbrev called : Bool → MicroCalled
-  called fine = cond fine (answered s (run-on program mem (taken s) 0 0 requests)) (micro-refused (micro-test (length mem) program s requests) s mem)
+  called fine = cond fine (answered s (run-on program mem (micro-unpacked s) 0 0 requests)) (micro-refused (micro-test (length mem) program s requests) s mem)
 
   -- what holds of the state as lent and of the one that the run gives holds of the one that is answered
-  state-kept : (R : MicroState → Type 0) → R s → R (given (run-on program mem (taken s) 0 0 requests .ran .machine)) → R (run program mem s requests .answer .state)
+  state-kept : (R : MicroState → Type 0) → R s → R (micro-packed (run-on program mem (micro-unpacked s) 0 0 requests .ran .machine)) → R (run program mem s requests .answer .state)
   unfolding run
   state-kept R lent ran = by-test (is-done (micro-test (length mem) program s requests))
     where
       by-test : (fine : Bool) → R (called fine .answer .state)
       by-test false = lent
-      by-test true = by-cut (untouched (run-on program mem (taken s) 0 0 requests .ran))
+      by-test true = by-cut (untouched (run-on program mem (micro-unpacked s) 0 0 requests .ran))
         where
-          by-cut : (b : Bool) → R (cond b s (given (run-on program mem (taken s) 0 0 requests .ran .machine)))
+          by-cut : (b : Bool) → R (cond b s (micro-packed (run-on program mem (micro-unpacked s) 0 0 requests .ran .machine)))
           by-cut true = lent
           by-cut false = ran
 
@@ -94,21 +94,21 @@ module _ (program mem : List ℕ) (s : MicroState) (requests : List ℕ) where
     where
       by-test : (fine : Bool) → length (called fine .memory) ≡ length mem
       by-test false = refl
-      by-test true = memory-length program requests mem (taken s) 0 0
+      by-test true = memory-length program requests mem (micro-unpacked s) 0 0
 
   pub call-register-0 : register (run program mem s requests .answer .state .registers) 0 ≡ register (s .registers) 0
   call-register-0 =
-      state-kept (λ (t : MicroState). register (t .registers) 0 ≡ register (s .registers) 0) refl (register-0 program requests mem (taken s) 0 0)
+      state-kept (λ (t : MicroState). register (t .registers) 0 ≡ register (s .registers) 0) refl (register-0 program requests mem (micro-unpacked s) 0 0)
 
   pub call-registers : length (run program mem s requests .answer .state .registers) ≡ length (s .registers)
   call-registers =
-      state-kept (λ (t : MicroState). length (t .registers) ≡ length (s .registers)) refl (registers program requests mem (taken s) 0 0)
+      state-kept (λ (t : MicroState). length (t .registers) ≡ length (s .registers)) refl (registers program requests mem (micro-unpacked s) 0 0)
 
   pub call-mpc-inside : s .mpc < length program → run program mem s requests .answer .state .mpc < length program
-  call-mpc-inside h = state-kept (λ (t : MicroState). t .mpc < length program) h (mpc-inside program requests mem (taken s) 0 0 h)
+  call-mpc-inside h = state-kept (λ (t : MicroState). t .mpc < length program) h (mpc-inside program requests mem (micro-unpacked s) 0 0 h)
 
   pub call-six-bits : s .psw < 64 → run program mem s requests .answer .state .psw < 64
-  call-six-bits h = state-kept (λ (t : MicroState). t .psw < 64) h (six-bits (run-on program mem (taken s) 0 0 requests .ran .machine .psw))
+  call-six-bits h = state-kept (λ (t : MicroState). t .psw < 64) h (six-bits (run-on program mem (micro-unpacked s) 0 0 requests .ran .machine .psw))
 
   pub call-returns-at-most : run program mem s requests .answer .steps .count ≤ run program mem s requests .answer .microcycles .count
   unfolding run
@@ -116,4 +116,4 @@ module _ (program mem : List ℕ) (s : MicroState) (requests : List ℕ) where
     where
       by-test : (fine : Bool) → called fine .answer .steps .count ≤ called fine .answer .microcycles .count
       by-test false = omega arith
-      by-test true = returns-at-most program requests mem (taken s) 0 0 (omega arith)
+      by-test true = returns-at-most program requests mem (micro-unpacked s) 0 0 (omega arith)

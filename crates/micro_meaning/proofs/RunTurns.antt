@@ -29,14 +29,14 @@ module _ (program mem registers : List ℕ) (core : Core) (done returns : ℕ) (
   outcome leaving = advanced-by leaving program mem registers core (getD requests i 0)
 
   -- the outcome shows which way it went
-  same-way : (b : Bool) → advanced-to out after registers′ ≡ outcome b → out .left ≡ b
-  same-way true o = ap (λ (a : AdvancedTo). a .answer .left) o
-  same-way false o = ap (λ (a : AdvancedTo). a .answer .left) o
+  same-way : (b : Bool) → advanced-to out after registers′ ≡ outcome b → out .leaves ≡ b
+  same-way true o = ap (λ (a : AdvancedTo). a .answer .leaves) o
+  same-way false o = ap (λ (a : AdvancedTo). a .answer .leaves) o
 
-  way : out .left ≡ leaves program s (getD requests i 0)
+  way : out .leaves ≡ leaves program s (getD requests i 0)
   way = same-way (leaves program s (getD requests i 0)) e
 
-  pub more : out .left ≡ false
+  pub more : out .leaves ≡ false
       → run-on program mem s done returns (drop i requests)
       ≡ run-on program after (machine registers′ (out .core)) (done + 1) (returns + num (at-fetch (machine registers′ (out .core)))) (drop (i + 1) requests)
   unfolding run-on
@@ -47,7 +47,7 @@ module _ (program mem registers : List ℕ) (core : Core) (done returns : ℕ) (
       let memory : after ≡ applied (micro-store program s) mem = ap (λ (a : AdvancedTo). a .memory) went in
       rw (drop-cons requests i 0 h, stays, state, memory, add-one i)
 
-  pub stop : out .left ≡ true → run-on program mem s done returns (drop i requests) ≡ ended NextAddress after (machine registers′ (out .core)) done returns
+  pub stop : out .leaves ≡ true → run-on program mem s done returns (drop i requests) ≡ ended NextAddress after (machine registers′ (out .core)) done returns
   unfolding run-on
   stop l =
       let goes = sym way ∙ l in

@@ -19,36 +19,36 @@ use Rattle.answers.proofs.FirstPlace.{none-in-join}
 use Rattle.phase_meaning.specs.Tests.{machine-test}
 use Rattle.micro_meaning.specs.declared.MicroState.{MicroState}
 use Rattle.micro_meaning.specs.declared.MicroMachine.{MicroMachine}
-use Rattle.micro_meaning.specs.Machine.{taken, given}
+use Rattle.micro_meaning.specs.Machine.{micro-unpacked, micro-packed}
 use Rattle.micro_meaning.specs.Run.{RanOn, MicroCalled, bad-request, micro-test, run-on, untouched, answered, micro-refused, run}
 use Rattle.micro_meaning.proofs.RunKeeps.{memory-length, register-0, mpc-inside}
 use Rattle.micro_meaning.proofs.RunJoins.{joined, counted, counts-added, unmoved}
 use Rattle.micro_meaning.proofs.RunTests.{Fine, fine, fine-done}
 
 -- six bits are given back as they were taken
-pub given-back : (s : MicroState) → s .psw < 64 → given (taken s) ≡ s
+pub given-back : (s : MicroState) → s .psw < 64 → micro-packed (micro-unpacked s) ≡ s
 given-back s h = ap (λ (psw : ℕ). record { registers = s .registers; psw = psw; pc = s .pc; ir = s .ir; mar = s .mar; mbr = s .mbr; mpc = s .mpc; ivec = s .ivec }) (dropped (s .psw) ∙ mod-eq-of-lt h)
 
-pub taken-back : (m : MicroMachine) → taken (given m) ≡ m
+pub taken-back : (m : MicroMachine) → micro-unpacked (micro-packed m) ≡ m
 taken-back m = ap (λ (psw : Psw). record { registers = m .registers; psw = psw; pc = m .pc; ir = m .ir; mar = m .mar; mbr = m .mbr; mpc = m .mpc; ivec = m .ivec }) (restored (m .psw))
 
 -- a call whose tests pass is its run
 pub as-run : (program mem : List ℕ) (s : MicroState) (requests : List ℕ) → Fine (length mem) program s requests
-    → run program mem s requests ≡ answered s (run-on program mem (taken s) 0 0 requests)
+    → run program mem s requests ≡ answered s (run-on program mem (micro-unpacked s) 0 0 requests)
 unfolding run
 as-run program mem s requests f = rw (fine-done (length mem) program s requests f)
 
 -- what a done call was
 record DoneCall (program mem : List ℕ) (s : MicroState) (requests : List ℕ) : Type 0 where
   tests : Fine (length mem) program s requests
-  done : is-done (run-on program mem (taken s) 0 0 requests .ran .end) ≡ true
+  done : is-done (run-on program mem (micro-unpacked s) 0 0 requests .ran .end) ≡ true
 
 done-call : (program mem : List ℕ) (s : MicroState) (requests : List ℕ) → is-done (run program mem s requests .answer .end) ≡ true → DoneCall program mem s requests
 unfolding run
 done-call program mem s requests d = by-test (is-done (micro-test (length mem) program s requests)) refl d
   where
     by-test : (b : Bool) → is-done (micro-test (length mem) program s requests) ≡ b
-        → is-done (cond b (answered s (run-on program mem (taken s) 0 0 requests)) (micro-refused (micro-test (length mem) program s requests) s mem) .answer .end) ≡ true
+        → is-done (cond b (answered s (run-on program mem (micro-unpacked s) 0 0 requests)) (micro-refused (micro-test (length mem) program s requests) s mem) .answer .end) ≡ true
         → DoneCall program mem s requests
     by-test true e d = record { tests = fine (length mem) program s requests e; done = d }
     by-test false e d = absurd (false≢true (sym e ∙ d))
@@ -57,7 +57,7 @@ done-call program mem s requests d = by-test (is-done (micro-test (length mem) p
 abbrev done-answer : RanOn → MicroCalled
 done-answer r =
     record {
-      answer = record { end = r .ran .end; microcycles = r .ran .microcycles; steps = r .ran .steps; state = given (r .ran .machine) };
+      answer = record { end = r .ran .end; microcycles = r .ran .microcycles; steps = r .ran .steps; state = micro-packed (r .ran .machine) };
       memory = r .memory;
     }
 
@@ -94,7 +94,7 @@ same-state s start last before own false still begun = by-own (eqb own 0) refl (
 module _ (program mem : List ℕ) (s : MicroState) (xs ys : List ℕ) (six : s .psw < 64) (good : first-place bad-request ys ≡ length ys)
     (d : DoneCall program mem s xs) where
   abbrev first-run : RanOn
-  first-run = run-on program mem (taken s) 0 0 xs
+  first-run = run-on program mem (micro-unpacked s) 0 0 xs
 
   abbrev second-run : RanOn
   second-run = run-on program (first-run .memory) (first-run .ran .machine) 0 0 ys
@@ -107,14 +107,14 @@ module _ (program mem : List ℕ) (s : MicroState) (xs ys : List ℕ) (six : s .
         requests-good = none-in-join bad-request xs ys (d .tests .requests-good) good;
       }
 
-  tests-of-second : Fine (length (first-run .memory)) program (given (first-run .ran .machine)) ys
+  tests-of-second : Fine (length (first-run .memory)) program (micro-packed (first-run .ran .machine)) ys
   tests-of-second =
       record {
         lent =
-            ap (λ (words : ℕ). is-done (machine-test words (register (first-run .ran .machine .registers) 0) program)) (memory-length program xs mem (taken s) 0 0)
-            ∙ ap (λ (zero : ℕ). is-done (machine-test (length mem) zero program)) (register-0 program xs mem (taken s) 0 0)
+            ap (λ (words : ℕ). is-done (machine-test words (register (first-run .ran .machine .registers) 0) program)) (memory-length program xs mem (micro-unpacked s) 0 0)
+            ∙ ap (λ (zero : ℕ). is-done (machine-test (length mem) zero program)) (register-0 program xs mem (micro-unpacked s) 0 0)
             ∙ d .tests .lent;
-        inside = mpc-inside program xs mem (taken s) 0 0 (d .tests .inside);
+        inside = mpc-inside program xs mem (micro-unpacked s) 0 0 (d .tests .inside);
         requests-good = good;
       }
 
@@ -122,28 +122,28 @@ module _ (program mem : List ℕ) (s : MicroState) (xs ys : List ℕ) (six : s .
   both =
       as-run program mem s (xs ++ ys) tests-of-both
       ∙ ap (answered s)
-      (joined program xs ys mem (taken s) 0 0 (d .done)
+      (joined program xs ys mem (micro-unpacked s) 0 0 (d .done)
       ∙ sym (ap (λ (k : ℕ). run-on program (first-run .memory) (first-run .ran .machine) k (first-run .ran .steps .count + 0) ys) (add-zero (first-run .ran .microcycles .count))
       ∙ ap (λ (n : ℕ). run-on program (first-run .memory) (first-run .ran .machine) (first-run .ran .microcycles .count) n ys) (add-zero (first-run .ran .steps .count)))
       ∙ counts-added program ys (first-run .memory) (first-run .ran .machine) (first-run .ran .microcycles .count) (first-run .ran .steps .count) 0 0)
 
-  second : run program (first-run .memory) (given (first-run .ran .machine)) ys ≡ answered (given (first-run .ran .machine)) second-run
+  second : run program (first-run .memory) (micro-packed (first-run .ran .machine)) ys ≡ answered (micro-packed (first-run .ran .machine)) second-run
   second =
-      as-run program (first-run .memory) (given (first-run .ran .machine)) ys tests-of-second
-      ∙ ap (λ (m : MicroMachine). answered (given (first-run .ran .machine)) (run-on program (first-run .memory) m 0 0 ys)) (taken-back (first-run .ran .machine))
+      as-run program (first-run .memory) (micro-packed (first-run .ran .machine)) ys tests-of-second
+      ∙ ap (λ (m : MicroMachine). answered (micro-packed (first-run .ran .machine)) (run-on program (first-run .memory) m 0 0 ys)) (taken-back (first-run .ran .machine))
 
   first : run program mem s xs ≡ done-answer first-run
   first = as-run program mem s xs (d .tests) ∙ done-answered s first-run (d .done)
 
-  state-of-both : cond (untouched (counted (first-run .ran .microcycles .count) (first-run .ran .steps .count) second-run .ran)) s (given (second-run .ran .machine))
-      ≡ cond (untouched (second-run .ran)) (given (first-run .ran .machine)) (given (second-run .ran .machine))
+  state-of-both : cond (untouched (counted (first-run .ran .microcycles .count) (first-run .ran .steps .count) second-run .ran)) s (micro-packed (second-run .ran .machine))
+      ≡ cond (untouched (second-run .ran)) (micro-packed (first-run .ran .machine)) (micro-packed (second-run .ran .machine))
   state-of-both =
-      same-state s (given (first-run .ran .machine)) (given (second-run .ran .machine)) (first-run .ran .microcycles .count)
+      same-state s (micro-packed (first-run .ran .machine)) (micro-packed (second-run .ran .machine)) (first-run .ran .microcycles .count)
       (second-run .ran .microcycles .count) (is-done (second-run .ran .end))
-      (λ none. ap given (unmoved program ys (first-run .memory) (first-run .ran .machine) 0 0 none))
-      (λ none. ap given (unmoved program xs mem (taken s) 0 0 none) ∙ given-back s six)
+      (λ none. ap micro-packed (unmoved program ys (first-run .memory) (first-run .ran .machine) 0 0 none))
+      (λ none. ap micro-packed (unmoved program xs mem (micro-unpacked s) 0 0 none) ∙ given-back s six)
 
-  together : run program mem s (xs ++ ys) ≡ added (done-answer first-run) (answered (given (first-run .ran .machine)) second-run)
+  together : run program mem s (xs ++ ys) ≡ added (done-answer first-run) (answered (micro-packed (first-run .ran .machine)) second-run)
   together =
       both
       ∙ ap (λ (state : MicroState). record {

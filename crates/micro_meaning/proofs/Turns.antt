@@ -33,14 +33,14 @@ module _ (program mem registers : List ℕ) (core : Core) (request : ℕ) {word 
   unfolding leaves
   inside h = rw (← the-next, lt-leb (length program) next h)
 
-  pub left : length program ≤ next
-      → advanced-to (record { left = true; core = core }) mem registers ≡ advanced program mem registers core request
-  left h = rw (outside h)
+  pub not-done : length program ≤ next
+      → advanced-to (record { leaves = true; core = core }) mem registers ≡ advanced program mem registers core request
+  not-done h = rw (outside h)
 
   pub went : next < length program → {read : Read} {done : Performed} {after registers′ : List ℕ}
       → read ≡ read-of registers (core .ir) → done ≡ performed mem word core read next
       → registers′ ≡ put registers (done .register) (done .value) → after ≡ applied (done .store) mem
-      → advanced-to (record { left = false; core = done .core }) after registers′ ≡ advanced program mem registers core request
+      → advanced-to (record { leaves = false; core = done .core }) after registers′ ≡ advanced program mem registers core request
   went h {done = done} {after = after} {registers′ = registers′} er ed ep ea = rw (inside h, ← state, ← memory)
     where
       as-one : done ≡ performed mem (word-at program (core .mpc)) core (read-of registers (core .ir)) (next-address program s request)

@@ -23,8 +23,8 @@ abbrev pub advanced-by : Bool → List ℕ → List ℕ → List ℕ → Core �
 advanced-by leaving program mem registers core request =
     let s = machine registers core in
     let next = microcycle program mem s request in
-    cond leaving (advanced-to (record { left = true; core = core }) mem registers)
-    (advanced-to (record { left = false; core = core-of next }) (applied (micro-store program s) mem) (next .registers))
+    cond leaving (advanced-to (record { leaves = true; core = core }) mem registers)
+    (advanced-to (record { leaves = false; core = core-of next }) (applied (micro-store program s) mem) (next .registers))
 
 abbrev pub advanced : List ℕ → List ℕ → List ℕ → Core → ℕ → AdvancedTo
 advanced program mem registers core request =

@@ -20,8 +20,8 @@ seen s =
     }
 
 -- the PSW's other bits are dropped
-abbrev pub taken : MicroState → MicroMachine
-taken s =
+abbrev pub micro-unpacked : MicroState → MicroMachine
+micro-unpacked s =
     record {
       registers = s .registers;
       psw = get-psw (s .psw);
@@ -33,8 +33,8 @@ taken s =
       ivec = s .ivec;
     }
 
-abbrev pub given : MicroMachine → MicroState
-given m =
+abbrev pub micro-packed : MicroMachine → MicroState
+micro-packed m =
     record {
       registers = m .registers;
       psw = mk-psw (m .psw);

@@ -18,7 +18,7 @@ use Rattle.micro_meaning.specs.declared.MicroState.{MicroState}
 use Rattle.micro_meaning.specs.declared.MicroMachine.{MicroMachine}
 use Rattle.micro_meaning.specs.declared.Ran.{Ran}
 use Rattle.micro_meaning.specs.declared.MicroAnswer.{MicroAnswer}
-use Rattle.micro_meaning.specs.Machine.{taken, given}
+use Rattle.micro_meaning.specs.Machine.{micro-unpacked, micro-packed}
 use Rattle.micro_meaning.specs.Microcycle.{microcycle, micro-store, leaves}
 
 -- the scope's 7
@@ -82,7 +82,7 @@ answer-of s ran =
       end = ran .end;
       microcycles = ran .microcycles;
       steps = ran .steps;
-      state = cond (untouched ran) s (given (ran .machine));
+      state = cond (untouched ran) s (micro-packed (ran .machine));
     }
 
 abbrev pub answered : MicroState → RanOn → MicroCalled
@@ -91,4 +91,4 @@ answered s r = record { answer = answer-of s (r .ran); memory = r .memory }
 unfoldable pub run : List ℕ → List ℕ → MicroState → List ℕ → MicroCalled
 run program mem s requests =
     let test = micro-test (length mem) program s requests in
-    cond (is-done test) (answered s (run-on program mem (taken s) 0 0 requests)) (micro-refused test s mem)
+    cond (is-done test) (answered s (run-on program mem (micro-unpacked s) 0 0 requests)) (micro-refused test s mem)

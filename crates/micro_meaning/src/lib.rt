@@ -77,6 +77,6 @@ pub struct MicroAnswer {
 
 // How a microcycle went: not done where it would leave, and then the state is the one before it.
 pub struct Advanced {
-    pub left: bool,
+    pub leaves: bool,
     pub core: Core,
 }

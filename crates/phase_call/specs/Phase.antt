@@ -41,7 +41,7 @@ abbrev pub latch-words : PhaseState → List ℕ
 latch-words s = s .alatch ∷ s .blatch ∷ num (s .ireq) ∷ num (s .iack) ∷ []
 
 -- what avm_phase answers and leaves
-pub record PhaseLeft : Type 0 where
+pub record PhaseFound : Type 0 where
   pub answer : Answer
   pub memory : List ℕ
   pub registers : List ℕ
@@ -51,7 +51,7 @@ pub record PhaseLeft : Type 0 where
   pub phase : ℕ
 
 -- what is found after the call, place by place; after a refusal everything is as lent
-abbrev pub phase-found : Answer → List ℕ → List ℕ → List ℕ → List ℕ → ℕ → ℕ → PhaseLeft
+abbrev pub phase-found : Answer → List ℕ → List ℕ → List ℕ → List ℕ → ℕ → ℕ → PhaseFound
 phase-found answer mem registers state latches mir phase =
     record { answer = answer; memory = mem; registers = registers; state = state; latches = latches; mir = mir; phase = phase }
 
@@ -59,8 +59,8 @@ phase-found answer mem registers state latches mir phase =
 abbrev pub uncounted : End → Answer
 uncounted end = answered end (record { count = 0 }) (record { count = 0 })
 
-abbrev pub phase-left : PhaseCalled → PhaseLeft
-phase-left called =
+abbrev pub phase-called : PhaseCalled → PhaseFound
+phase-called called =
     let s = called .answer .state in
     record {
       answer = uncounted (called .answer .end);
@@ -72,12 +72,12 @@ phase-left called =
       phase = s .phase;
     }
 
-unfoldable pub avm-phase : List ℕ → List ℕ → List ℕ → List ℕ → List ℕ → ℕ → ℕ → ℕ → PhaseLeft
+unfoldable pub avm-phase : List ℕ → List ℕ → List ℕ → List ℕ → List ℕ → ℕ → ℕ → ℕ → PhaseFound
 avm-phase program mem registers state latches mir phase request =
     let number = first-test (length mem) (length registers) in
     let called = phase-call program mem (phase-state registers state latches mir phase) request in
     cond (eqb number 0)
     (cond (is-done (called .answer .end))
-    (phase-left called)
+    (phase-called called)
     (phase-found (uncounted (called .answer .end)) mem registers state latches mir phase))
     (phase-found (refused number) mem registers state latches mir phase)

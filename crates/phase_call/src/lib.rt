@@ -69,7 +69,7 @@ pub fn phase(
     if number != 0 {
         return refuse(number);
     }
-    let lent = phase_state(calls::take(registers), state, latches, *mir, *phase);
+    let lent = phase_state(calls::registers_in(registers), state, latches, *mir, *phase);
     let called = phase_level::call::phase(program, memory, lent, request);
     let end = called.end;
     let microcycles = Microcycles { count: 0 };
@@ -79,7 +79,7 @@ pub fn phase(
     }
     let after = called.state;
     let file = after.registers;
-    calls::give(registers, file);
+    calls::registers_out(registers, file);
     *state = phase_words(after);
     *latches = latch_words(after);
     *mir = after.mir;

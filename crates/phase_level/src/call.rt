@@ -1,6 +1,6 @@
 // One phase, or a refusal.
 ghost use mathlib.Core.Path.{_≡_};
-ghost use Rattle.phase_meaning.specs.Machine.{taken, given};
+ghost use Rattle.phase_meaning.specs.Machine.{phase-unpacked, phase-packed};
 ghost use Rattle.phase_meaning.specs.Tests.{phase-test};
 ghost use Rattle.phase_meaning.specs.Call.{phase-done, stores, leaves, phase-call};
 use crate::phases;
@@ -13,8 +13,8 @@ use phase_meaning::PhaseMachine;
 use phase_meaning::PhaseState;
 
 // The PSW's other bits are dropped.
-fn take(s: PhaseState) -> PhaseMachine
-    ensures { λ r. ⌜ r ≡ taken s ⌝ }
+fn unpack(s: PhaseState) -> PhaseMachine
+    ensures { λ r. ⌜ r ≡ phase-unpacked s ⌝ }
 {
     let registers = s.registers;
     let psw = status::psw::from_word(s.psw);
@@ -36,8 +36,8 @@ fn take(s: PhaseState) -> PhaseMachine
     }
 }
 
-fn give(m: PhaseMachine) -> PhaseState
-    ensures { λ r. ⌜ r ≡ given m ⌝ }
+fn pack(m: PhaseMachine) -> PhaseState
+    ensures { λ r. ⌜ r ≡ phase-packed m ⌝ }
 {
     let registers = m.registers;
     let psw = status::psw::to_word(m.psw);
@@ -131,7 +131,7 @@ pub fn phase(program: &[u64], memory: &mut [u32], s: PhaseState, request: u8) ->
             state: s,
         };
     }
-    let machine = take(s);
+    let machine = unpack(s);
     if leaves(program.len(), machine) {
         return PhaseAnswer {
             end: End::NextAddress,
@@ -142,6 +142,6 @@ pub fn phase(program: &[u64], memory: &mut [u32], s: PhaseState, request: u8) ->
     apply(memory, stores(machine));
     PhaseAnswer {
         end: End::Done,
-        state: give(next),
+        state: pack(next),
     }
 }

@@ -12,7 +12,7 @@ use Rattle.blocks.specs.declared.memory.Store.{Store}
 use Rattle.blocks.specs.Memory.{applied}
 use Rattle.phase_meaning.specs.declared.PhaseState.{PhaseState}
 use Rattle.phase_meaning.specs.declared.PhaseMachine.{PhaseMachine}
-use Rattle.phase_meaning.specs.Machine.{taken, given}
+use Rattle.phase_meaning.specs.Machine.{phase-unpacked, phase-packed}
 use Rattle.phase_meaning.specs.Tests.{phase-test}
 use Rattle.phase_meaning.specs.Call.{PhaseCalled, phase-done, stores, leaves, phase-refused, phase-call}
 
@@ -22,13 +22,13 @@ module _ (program mem : List ℕ) (s : PhaseState) (request : ℕ) {test : End} 
   unfolding phase-call
   test-refused h = rw (← e, ← d, turned done h)
 
-  module _ (h : not done ≡ false) {machine : PhaseMachine} {leaving : Bool} (t : machine ≡ taken s) (l : leaving ≡ leaves (length program) machine) where
-    pub left : leaving ≡ true → phase-call program mem s request ≡ phase-refused NextAddress s mem
+  module _ (h : not done ≡ false) {machine : PhaseMachine} {leaving : Bool} (t : machine ≡ phase-unpacked s) (l : leaving ≡ leaves (length program) machine) where
+    pub leaving-refused : leaving ≡ true → phase-call program mem s request ≡ phase-refused NextAddress s mem
     unfolding phase-call
-    left b = rw (← e, ← d, upright done h, ← t, ← l, b)
+    leaving-refused b = rw (← e, ← d, upright done h, ← t, ← l, b)
 
     pub went : leaving ≡ false → {next : PhaseMachine} {store : Store} {state : PhaseState} {after : List ℕ}
-        → next ≡ phase-done program mem machine request → store ≡ stores machine → after ≡ applied store mem → state ≡ given next
+        → next ≡ phase-done program mem machine request → store ≡ stores machine → after ≡ applied store mem → state ≡ phase-packed next
         → phase-call program mem s request ≡ record { answer = record { end = Done; state = state }; memory = after }
     unfolding phase-call
     went b n o a g = rw (g, a, o, n, ← e, ← d, upright done h, ← t, ← l, b)
@@ -37,15 +37,15 @@ module _ (program mem : List ℕ) (s : PhaseState) (request : ℕ) {test : End} 
 pub as-lent : (program mem : List ℕ) (s : PhaseState) (request : ℕ) → is-done (phase-call program mem s request .answer .end) ≡ false
     → (phase-call program mem s request .memory ≡ mem) × (phase-call program mem s request .answer .state ≡ s)
 unfolding phase-call
-as-lent program mem s request h = go (is-done (phase-test (length mem) program s request)) (leaves (length program) (taken s)) h
+as-lent program mem s request h = go (is-done (phase-test (length mem) program s request)) (leaves (length program) (phase-unpacked s)) h
   where
     outcome : Bool → Bool → PhaseCalled
     outcome fine leaving =
         cond fine
         (cond leaving (phase-refused NextAddress s mem)
         (record {
-          answer = record { end = Done; state = given (phase-done program mem (taken s) request) };
-          memory = applied (stores (taken s)) mem;
+          answer = record { end = Done; state = phase-packed (phase-done program mem (phase-unpacked s) request) };
+          memory = applied (stores (phase-unpacked s)) mem;
         }))
         (phase-refused (phase-test (length mem) program s request) s mem)
 

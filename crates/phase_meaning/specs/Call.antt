@@ -15,7 +15,7 @@ use Rattle.phase_meaning.specs.declared.PhaseMachine.{PhaseMachine}
 use Rattle.phase_meaning.specs.Phases.{phase-one, phase-two, phase-three, phase-four, next-mpc, phase-store}
 use Rattle.phase_meaning.specs.declared.PhaseState.{PhaseState}
 use Rattle.phase_meaning.specs.declared.PhaseAnswer.{PhaseAnswer}
-use Rattle.phase_meaning.specs.Machine.{taken, given}
+use Rattle.phase_meaning.specs.Machine.{phase-unpacked, phase-packed}
 use Rattle.phase_meaning.specs.Tests.{phase-test, last-phase}
 
 -- the phase that is next, by its number (GetPhaseClock and the list, pp. 114-118)
@@ -45,12 +45,12 @@ phase-refused end s mem = record { answer = record { end = end; state = s }; mem
 unfoldable pub phase-call : List ℕ → List ℕ → PhaseState → ℕ → PhaseCalled
 phase-call program mem s request =
     let test = phase-test (length mem) program s request in
-    let machine = taken s in
+    let machine = phase-unpacked s in
     cond (is-done test)
     (cond (leaves (length program) machine)
     (phase-refused NextAddress s mem)
     (record {
-      answer = record { end = Done; state = given (phase-done program mem machine request) };
+      answer = record { end = Done; state = phase-packed (phase-done program mem machine request) };
       memory = applied (stores machine) mem;
     }))
     (phase-refused test s mem)

@@ -5,8 +5,8 @@ use Rattle.phase_meaning.specs.declared.PhaseState.{PhaseState}
 use Rattle.phase_meaning.specs.declared.PhaseMachine.{PhaseMachine}
 
 -- the PSW's other bits are dropped
-abbrev pub taken : PhaseState → PhaseMachine
-taken s =
+abbrev pub phase-unpacked : PhaseState → PhaseMachine
+phase-unpacked s =
     record {
       registers = s .registers;
       psw = get-psw (s .psw);
@@ -24,8 +24,8 @@ taken s =
       phase = s .phase;
     }
 
-abbrev pub given : PhaseMachine → PhaseState
-given m =
+abbrev pub phase-packed : PhaseMachine → PhaseState
+phase-packed m =
     record {
       registers = m .registers;
       psw = mk-psw (m .psw);

@@ -24,7 +24,7 @@ use Rattle.phase_meaning.specs.Tests.{machine-test}
 use Rattle.micro_meaning.specs.declared.MicroMachine.{MicroMachine}
 use Rattle.micro_meaning.specs.Microcycle.{microcycle, micro-store}
 use Rattle.micro_meaning.specs.declared.MicroState.{MicroState}
-use Rattle.micro_meaning.specs.Machine.{taken, given}
+use Rattle.micro_meaning.specs.Machine.{micro-unpacked, micro-packed}
 use Rattle.micro_meaning.specs.Run.{RanOn, MicroCalled, at-fetch, bad-request, run-on, run}
 use Rattle.phase_meaning.proofs.TestsInOrder.{machine-refused}
 use Rattle.micro_meaning.proofs.RunTests.{Fine, lent-refused as micro-lent}
@@ -32,7 +32,7 @@ use Rattle.micro_meaning.proofs.RunCalls.{refused as micro-call}
 use Rattle.macro_meaning.proofs.RunTests.{lent-refused as macro-lent}
 use Rattle.macro_meaning.proofs.RunCalls.{refused as macro-call}
 use Rattle.micro_meaning.proofs.RunsInARow.{as-run}
-use Rattle.macro_meaning.specs.Machine.{given as macro-given}
+use Rattle.macro_meaning.specs.Machine.{macro-packed}
 use Rattle.macro_meaning.specs.Step.{Macro}
 use Rattle.macro_meaning.specs.Run.{MacroCalled, most-request, macro-test, macro-done, run as macro-run}
 use Rattle.published.specs.Listing.{published}
@@ -64,7 +64,7 @@ module _ (mem : List ℕ) (s : MicroState) (requests : List ℕ) where
   lent = lent-test (length mem) (register (s .registers) 0)
 
   abbrev pub steps-heard : List ℕ
-  steps-heard = heard published mem (taken s) requests
+  steps-heard = heard published mem (micro-unpacked s) requests
 
   abbrev pub micro : MicroCalled
   micro = run published mem s requests
@@ -88,9 +88,9 @@ module _ (mem : List ℕ) (s : MicroState) (requests : List ℕ) where
   module _ (good : is-done lent ≡ true) where
     macro-tested : macro-test (length mem) (macro-state s) steps-heard ≡ Done
     unfolding macro-test
-    macro-tested = rw (good, all-lines requests mem (taken s), le-ltb (length steps-heard) (length steps-heard) (le-refl (length steps-heard)))
+    macro-tested = rw (good, all-lines requests mem (micro-unpacked s), le-ltb (length steps-heard) (length steps-heard) (le-refl (length steps-heard)))
 
-    macro-is : macro ≡ macro-done (length steps-heard) (steps-of (shows mem (taken s)) steps-heard)
+    macro-is : macro ≡ macro-done (length steps-heard) (steps-of (shows mem (micro-unpacked s)) steps-heard)
     unfolding macro-run
     macro-is = rw macro-tested
 
@@ -105,10 +105,10 @@ module _ (mem : List ℕ) (s : MicroState) (requests : List ℕ) where
           }
 
       abbrev whole : RanOn
-      whole = run-on published mem (taken s) 0 0 requests
+      whole = run-on published mem (micro-unpacked s) 0 0 requests
 
-      micro-is : micro ≡ record { answer = record { end = Done; microcycles = whole .ran .microcycles; steps = whole .ran .steps; state = given (whole .ran .machine) }; memory = whole .memory }
-      micro-is = as-run published mem s requests tests ∙ rw (never-refused requests mem (taken s) 0 0 .ends)
+      micro-is : micro ≡ record { answer = record { end = Done; microcycles = whole .ran .microcycles; steps = whole .ran .steps; state = micro-packed (whole .ran .machine) }; memory = whole .memory }
+      micro-is = as-run published mem s requests tests ∙ rw (never-refused requests mem (micro-unpacked s) 0 0 .ends)
 
       pub micro-done : micro .answer .end ≡ Done
       micro-done = ap (λ (c : MicroCalled). c .answer .end) micro-is
@@ -121,7 +121,7 @@ module _ (mem : List ℕ) (s : MicroState) (requests : List ℕ) where
 
       pub calls-agree : micro .answer .state .mpc ≡ fetch-address → Agree
       calls-agree back =
-          let there = returns-are-steps mem (taken s) (eq-eqb (s .mpc) fetch-address at-first) requests in
+          let there = returns-are-steps mem (micro-unpacked s) (eq-eqb (s .mpc) fetch-address at-first) requests in
           let at-end : at-fetch (whole .ran .machine) ≡ true =
           eq-eqb (whole .ran .machine .mpc) fetch-address (sym (ap (λ (c : MicroCalled). c .answer .state .mpc) micro-is) ∙ back) in
           let shown = there .each-return at-end in
@@ -130,7 +130,7 @@ module _ (mem : List ℕ) (s : MicroState) (requests : List ℕ) where
             done = ap (λ (c : MacroCalled). c .answer .end) macro-is;
             steps = ap (λ (c : MacroCalled). c .answer .steps) macro-is ∙ ap (λ (n : ℕ). record { count = n }) count ∙ sym (ap (λ (c : MicroCalled). c .answer .steps) micro-is);
             state =
-                ap (λ (c : MacroCalled). c .answer .state) macro-is ∙ ap (λ (x : Macro). macro-given (x .machine)) (sym shown)
+                ap (λ (c : MacroCalled). c .answer .state) macro-is ∙ ap (λ (x : Macro). macro-packed (x .machine)) (sym shown)
                 ∙ sym (ap (λ (c : MicroCalled). macro-state (c .answer .state)) micro-is);
             memory = ap (λ (c : MacroCalled). c .memory) macro-is ∙ ap (λ (x : Macro). x .memory) (sym shown) ∙ sym (ap (λ (c : MicroCalled). c .memory) micro-is);
           }

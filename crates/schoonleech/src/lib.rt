@@ -12,7 +12,7 @@ ghost use Rattle.calls.specs.Lending.{found};
 ghost use Rattle.micro_call.specs.Runs.{avm-run};
 ghost use Rattle.macro_call.specs.Steps.{avm-steps};
 ghost use Rattle.phase_call.specs.Phase.{phase-found, avm-phase};
-ghost use Rattle.board_meaning.specs.Board as board;
+ghost use Rattle.board_meaning.specs.Board.{board-found, board-microcycle, board-instruction};
 use calls::Answer;
 use micro_meaning::MicroState;
 
@@ -111,7 +111,7 @@ pub extern "C" fn avm_board_microcycle(
     memory: &mut [u32],
     request: u8,
 ) -> Answer
-    ensures { λ r. ⌜ found r (now (board .exit)) (now (memory .exit))
+    ensures { λ r. ⌜ board-found r (now (board .exit)) (now (memory .exit))
         ≡ board-microcycle (now (board .entry)) (now (program .entry)) (now (memory .entry)) request ⌝ }
 {
     let moved = board_call::microcycle(*board, program, memory, request);
@@ -126,7 +126,7 @@ pub extern "C" fn avm_board_instruction(
     memory: &mut [u32],
     request: u8,
 ) -> Answer
-    ensures { λ r. ⌜ found r (now (board .exit)) (now (memory .exit))
+    ensures { λ r. ⌜ board-found r (now (board .exit)) (now (memory .exit))
         ≡ board-instruction (now (board .entry)) (now (memory .entry)) request ⌝ }
 {
     let stepped = board_call::instruction(*board, memory, request);

@@ -21,8 +21,8 @@ returns-2 c =
     let args = tested .before .before .before .before .args in
     steps-done (args .memory .now) (args .registers .now) (args .state .now) (args .requests .now)
     (tested .test .ensures) (took .before .before .if1 .left)
-    (took .take .ensures) (lent .macro-state .ensures) (ran .run .ensures .0) (ran .run .ensures .1)
-    (given .give .ensures) (c .before .macro-words .ensures) (c .answer-of .ensures)
+    (took .registers-in .ensures) (lent .macro-state .ensures) (ran .run .ensures .0) (ran .run .ensures .1)
+    (given .registers-out .ensures) (c .before .macro-words .ensures) (c .answer-of .ensures)
 
 pub steps-spec : {M : Type 1} → statement M
 steps-spec =

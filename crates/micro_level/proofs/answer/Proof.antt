@@ -24,7 +24,7 @@ returns c =
 returns-2 : tie.Need-returns-2
 returns-2 c =
     let ran = c .before .before .before .before .before .before .before .args .ran in
-    rw (c .give .ensures, not-cut ran (c .before .before .before .done .ensures) (c .before .if1 .left))
+    rw (c .pack .ensures, not-cut ran (c .before .before .before .done .ensures) (c .before .if1 .left))
 
 pub answer-spec : {M : Type 1} → statement M
 answer-spec = tie.close (tie.spec (λ c κs. search needs) returns (λ c κs. search needs) returns-2)

@@ -22,7 +22,7 @@ returns-2 c =
     let args = tested .before .before .before .before .args in
     let called =
     ran (args .program .now) (args .memory .now) (args .s) (args .requests .now) (tested .tested .ensures) (asked .done .ensures) (through .before .before .before .if1 .left)
-    (through .before .take .ensures) (through .run-on .ensures .0) (through .run-on .ensures .1) (c .answer .ensures) in
+    (through .before .unpack .ensures) (through .run-on .ensures .0) (through .run-on .ensures .1) (c .answer .ensures) in
     (sym (ap (λ (r : MicroCalled). r .answer) called), sym (ap (λ (r : MicroCalled). r .memory) called))
 
 pub run-spec : {M : Type 1} → statement M

@@ -23,7 +23,7 @@ returns-2 c =
     phase-refused (args .program .now) (args .memory .now) (args .registers .now) (args .state .now) (args .latches .now) (args .mir .now) (args .phase .now)
     (args .request)
     (tested .test .ensures) (took .before .before .if1 .left)
-    (took .take .ensures) (lent .phase-state .ensures) (called .phase .ensures .0) (called .phase .ensures .1)
+    (took .registers-in .ensures) (lent .phase-state .ensures) (called .phase .ensures .0) (called .phase .ensures .1)
     (asked .done .ensures) (c .answer-of .ensures) (c .before .if2 .taken)
 
 returns-3 : tie.Need-returns-3
@@ -39,9 +39,9 @@ returns-3 c =
     phase-went (args .program .now) (args .memory .now) (args .registers .now) (args .state .now) (args .latches .now) (args .mir .now) (args .phase .now)
     (args .request)
     (tested .test .ensures) (took .before .before .if1 .left)
-    (took .take .ensures) (lent .phase-state .ensures) (called .phase .ensures .0) (called .phase .ensures .1)
+    (took .registers-in .ensures) (lent .phase-state .ensures) (called .phase .ensures .0) (called .phase .ensures .1)
     (asked .done .ensures) (c .answer-of2 .ensures) (passed .if2 .left)
-    (given .give .ensures) (c .before .before .phase-words .ensures) (c .before .latch-words .ensures)
+    (given .registers-out .ensures) (c .before .before .phase-words .ensures) (c .before .latch-words .ensures)
 
 pub phase-spec : {M : Type 1} → statement M
 phase-spec =

@@ -50,7 +50,7 @@ use Rattle.micro_meaning.specs.declared.MicroState.{MicroState}
 use Rattle.micro_meaning.proofs.MicroState as state
 use Rattle.micro_meaning.proofs.MicroState.Laws as state-laws
 use Rattle.board_meaning.specs.declared.Moved.{Moved}
-use Rattle.board_meaning.specs.Board.{found, board-instruction}
+use Rattle.board_meaning.specs.Board.{board-found, board-instruction}
 use Rattle.board_meaning.proofs.Moved as moved
 use Rattle.board_meaning.proofs.Moved.Laws as moved-laws
 use Rattle.schoonleech.proofs.Records.{one-value, state-value, moved-board, moved-answer, state-makes, answer-makes, state-typed}
@@ -104,7 +104,7 @@ module _ {M : Type 1} (𝓤 : URA M) (H : Heap 𝓤) (A : Atoms 𝓤) (W : Given
 
   -- what the contract says of an answer, a board and memory
   abbrev Meant : Answer → MicroState → List ℕ → Type 0
-  Meant a after ys = found a after ys ≡ board-instruction lent (memory .now) request
+  Meant a after ys = board-found a after ys ≡ board-instruction lent (memory .now) request
 
   exits : (a : Answer) (after : MicroState) (ys : List ℕ) → Meant a after ys → length ys ≡ length (memory .now)
       → (v : Val) → Is answer.the-row a (v ∷ [])
@@ -235,5 +235,5 @@ avm-board-instruction-spec 𝓤 H 𝓜 𝓖 𝓡 =
     entered 𝓤 H (tripleOf 𝓤 H (𝓖 .A) caller.signature (caller.spec 𝓤 H (𝓖 .A) (𝓜 .mem) (𝓡 .run))) (all .C) (all .Λ)
     #avm-board-instruction code.function (code.unfolded 𝓤 H 𝓜 𝓡)
     (meets 𝓤 H (𝓖 .A) (givenOf 𝓤 H 𝓜 𝓖) (𝓜 .mem) (𝓡 .run) (tablesOf 𝓤 H 𝓜 all)
-    (cited 𝓤 H (Callee 𝓤 H (𝓖 .A) (𝓜 .mem) (𝓡 .run)) 𝓜 𝓡 code.env #instruction callee-symbol.routine code.calls-board·instruction
+    (cited 𝓤 H (Callee 𝓤 H (𝓖 .A) (𝓜 .mem) (𝓡 .run)) 𝓜 𝓡 code.env #instruction callee-symbol.routine code.calls-board-call·instruction
     (callee-met.met 𝓤 H 𝓜 𝓖 𝓡)))

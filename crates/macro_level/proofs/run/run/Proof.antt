@@ -22,7 +22,7 @@ returns-2 c =
     let args = tested .before .before .before .args in
     let called =
     ran (args .memory .now) (args .s) (args .requests .now) (tested .tested .ensures) (asked .done .ensures) (through .before .before .before .if1 .left)
-    (through .before .take .ensures) (through .stepped .ensures .0) (through .stepped .ensures .1) (c .give .ensures) in
+    (through .before .unpack .ensures) (through .stepped .ensures .0) (through .stepped .ensures .1) (c .pack .ensures) in
     (sym (ap (λ (r : MacroCalled). r .answer) called), sym (ap (λ (r : MacroCalled). r .memory) called))
 
 pub run-spec : {M : Type 1} → statement M

@@ -1,6 +1,6 @@
 -- The two outcomes, from what the calls ensure.
 use borrow.Author.Needs.{needs}
-use Rattle.micro_meaning.proofs.Turns.{left, went}
+use Rattle.micro_meaning.proofs.Turns.{not-done, went}
 use Rattle.micro_level.proofs.run_loop.advance.Statement.{statement}
 use Rattle.micro_level.proofs.run_loop.advance.Tie as tie
 
@@ -8,7 +8,7 @@ returns : tie.Need-returns
 returns c =
     let asked = c .before in
     let args = asked .before .before .before .before .args in
-    left (args .program .now) (args .memory .now) (args .registers .now) (args .core) (args .request) (asked .before .word-at .ensures) (asked .next .ensures)
+    not-done (args .program .now) (args .memory .now) (args .registers .now) (args .core) (args .request) (asked .before .word-at .ensures) (asked .next .ensures)
     (c .if1 .taken)
 
 returns-2 : tie.Need-returns-2

@@ -2,7 +2,7 @@
 use borrow.Author.Needs.{needs}
 use mathlib.Core.Path.{sym, ap}
 use Rattle.phase_meaning.specs.Call.{PhaseCalled}
-use Rattle.phase_meaning.proofs.PhaseCalls.{test-refused, left, went}
+use Rattle.phase_meaning.proofs.PhaseCalls.{test-refused, leaving-refused, went}
 use Rattle.phase_level.proofs.call.phase.Statement.{statement}
 use Rattle.phase_level.proofs.call.phase.Tie as tie
 
@@ -20,8 +20,8 @@ returns-2 c =
     let tested = asked .before in
     let args = tested .before .before .before .args in
     let called =
-    left (args .program .now) (args .memory .now) (args .s) (args .request) (tested .tested .ensures) (asked .done .ensures)
-    (c .before .before .before .if1 .left) (c .before .before .take .ensures) (c .before .leaves .ensures) (c .if2 .taken) in
+    leaving-refused (args .program .now) (args .memory .now) (args .s) (args .request) (tested .tested .ensures) (asked .done .ensures)
+    (c .before .before .before .if1 .left) (c .before .before .unpack .ensures) (c .before .leaves .ensures) (c .if2 .taken) in
     (sym (ap (λ (r : PhaseCalled). r .answer) called), sym (ap (λ (r : PhaseCalled). r .memory) called))
 
 returns-3 : tie.Need-returns-3
@@ -33,8 +33,8 @@ returns-3 c =
     let args = tested .before .before .before .args in
     let called =
     went (args .program .now) (args .memory .now) (args .s) (args .request) (tested .tested .ensures) (asked .done .ensures)
-    (inside .before .before .before .if1 .left) (inside .before .before .take .ensures) (inside .before .leaves .ensures) (inside .if2 .left)
-    (applied .before .before .before .phase-done .ensures) (applied .before .stores .ensures) (applied .apply .ensures) (c .give .ensures) in
+    (inside .before .before .before .if1 .left) (inside .before .before .unpack .ensures) (inside .before .leaves .ensures) (inside .if2 .left)
+    (applied .before .before .before .phase-done .ensures) (applied .before .stores .ensures) (applied .apply .ensures) (c .pack .ensures) in
     (sym (ap (λ (r : PhaseCalled). r .answer) called), sym (ap (λ (r : PhaseCalled). r .memory) called))
 
 pub phase-spec : {M : Type 1} → statement M

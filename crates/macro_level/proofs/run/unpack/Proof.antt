@@ -1,0 +1,12 @@
+-- The PSW is what its call ensures.
+use borrow.Author.Needs.{needs}
+use Rattle.macro_level.proofs.run.unpack.Statement.{statement}
+use Rattle.macro_level.proofs.run.unpack.Tie as tie
+
+returns : tie.Need-returns
+returns c = rw (c .from-word .ensures)
+
+pub unpack-spec : {M : Type 1} → statement M
+unpack-spec = tie.close (tie.spec
+    (λ c κs. search needs)
+    returns)
