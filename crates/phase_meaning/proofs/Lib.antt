@@ -2,3 +2,4 @@
 pub mod TestsInOrder
 pub mod PhaseCalls
 pub mod OnlyPhaseOneListens
+pub mod LoadedInTime
