@@ -1,13 +1,12 @@
-# Builds the example display, target/host/display: proves both libraries where that is not done yet, then compiles and links.
+# Builds the example display, target/host/display: proves the library where that is not done yet, then compiles and links.
 #
-# SCHOONLEECH_LIB        an archive to link instead of the proved one; rt is then not run for it
-# SCHOONLEECH_BOARD_LIB  an archive to link instead of the board's proved one; rt is then not run for it
+# SCHOONLEECH_LIB  an archive to link instead of the proved one; rt is then not run
 set -u
 cd "$(dirname "$0")/.." || exit 1
 . tests/host/x86_64.bash
 . tests/host/library.bash
 . display/sources.bash
 
-{ prove_library && prove_board_library; } >&2 || { echo "build: the libraries are not proved" >&2; exit 1; }
+prove_library >&2 || { echo "build: the library is not proved" >&2; exit 1; }
 mkdir -p target/host
-$cc -std=c99 -pedantic -O2 -Wall -Wextra -Werror -Iinclude -o target/host/display $display_sources "$board_library" "$library"
+$cc -std=c99 -pedantic -O2 -Wall -Wextra -Werror -Iinclude -o target/host/display $display_sources "$library"

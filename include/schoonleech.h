@@ -5,7 +5,7 @@
 
    A caller lends places: a microprogram, memory, registers, a block of state words, a board, text. A call reads them, changes some of them
    where they stand and returns an avm_answer. It keeps nothing for the next call. avm_published alone is lent nothing and returns a
-   microword. The two calls whose names begin with avm_board_ are in libboard.a, all others in libgrader.a; a program may link both.
+   microword. All nine are in one archive, libschoonleech.a, which `rt staticlib schoonleech` writes to target/staticlib.
 
    - A slice is a pointer and a number of elements. A slice of length 0 may come with NULL.
    - A block with a fixed size (state, latches, mir, phase, board) has no length. It may not be NULL.

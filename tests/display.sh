@@ -1,14 +1,13 @@
 # The example display (display/): its messages and statuses, its frames, the refused calls that it shows, its first run, and what it does
 # to a terminal.
 #
-# SCHOONLEECH_LIB        an archive to test with instead of the proved one
-# SCHOONLEECH_BOARD_LIB  an archive to test with instead of the board's proved one
+# SCHOONLEECH_LIB  an archive to test with instead of the proved one
 . tests/host/counting.bash
 . tests/host/x86_64.bash
 . tests/host/library.bash
 . display/sources.bash
 
-prove_both
+prove_or_finish
 
 strict="-std=c99 -pedantic-errors -O2 -Wall -Wextra -Werror -Iinclude"
 sanitizers="-fsanitize=address,undefined -fno-sanitize-recover=all"
@@ -19,14 +18,13 @@ mkdir "$files" && cp $story/published.microprogram $story/sum.hex $first/light.h
 builds=plain
 
 one "the display is C99 without extensions" $cc $strict -fsyntax-only $display_sources
-one "display/build.sh builds it" env SCHOONLEECH_LIB="$library" SCHOONLEECH_BOARD_LIB="$board_library" bash display/build.sh
+one "display/build.sh builds it" env SCHOONLEECH_LIB="$library" bash display/build.sh
 cp target/host/display "$work/plain" || finish
 
 # Sanitizers need a library of the compiler's, and the emulator can't run them.
 echo 'int main(void) { return 0; }' >"$work/empty.c"
 if [ -z "$emulator" ] && $cc $sanitizers -o "$work/empty" "$work/empty.c" 2>/dev/null && "$work/empty"; then
-    one "the display compiles with sanitizers" \
-        $cc $strict $sanitizers -o "$work/sanitized" $display_sources "$board_library" "$library"
+    one "the display compiles with sanitizers" $cc $strict $sanitizers -o "$work/sanitized" $display_sources "$library"
     builds="plain sanitized"
 fi
 

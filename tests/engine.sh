@@ -1,25 +1,24 @@
 # The engine's C calls (include/schoonleech.h): answers worked out by hand, and seeded random comparisons with the second simulator
 # (tests/simulator), with every lent place between guard pages.
 #
-# SCHOONLEECH_LIB        an archive to test instead of the proved one
-# SCHOONLEECH_BOARD_LIB  an archive to test instead of the board's proved one
-# SCHOONLEECH_ROUNDS     how many times the usual number of random cases; 1, and 1/4 where programs need an emulator
+# SCHOONLEECH_LIB     an archive to test instead of the proved one
+# SCHOONLEECH_ROUNDS  how many times the usual number of random cases; 1, and 1/4 where programs need an emulator
 . tests/host/counting.bash
 . tests/host/x86_64.bash
 . tests/host/library.bash
 
-prove_both
+prove_or_finish
 
 strict="-O2 -Wall -Wextra -Werror"
 use=tests/engine/header_use.c
 
-one "the header is C99 without extensions" $cc -std=c99 -pedantic-errors $strict -o "$work/use-c" $use "$library" "$board_library"
+one "the header is C99 without extensions" $cc -std=c99 -pedantic-errors $strict -o "$work/use-c" $use "$library"
 one ".. and its calls and numbers fit in C" $emulator "$work/use-c"
-one "the header is C++" $cxx -pedantic-errors $strict -o "$work/use-cpp" -x c++ $use -x none "$library" "$board_library"
+one "the header is C++" $cxx -pedantic-errors $strict -o "$work/use-cpp" -x c++ $use -x none "$library"
 one ".. and its calls and numbers fit in C++" $emulator "$work/use-cpp"
 
 sources=$(ls tests/engine/*.c | grep -v header_use)
-one "tests and second simulator compile" $cc -std=c99 $strict -o "$work/tests" $sources tests/simulator/*.c "$library" "$board_library"
+one "tests and second simulator compile" $cc -std=c99 $strict -o "$work/tests" $sources tests/simulator/*.c "$library"
 [ -x "$work/tests" ] || finish
 
 [ -z "$emulator" ] || export SCHOONLEECH_ROUNDS=${SCHOONLEECH_ROUNDS:-1/4}

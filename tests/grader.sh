@@ -5,8 +5,7 @@
 . tests/host/x86_64.bash
 . tests/host/library.bash
 
-[ -n "${SCHOONLEECH_LIB:-}" ] || one "the library is proved" prove_library
-[ "$failed" -eq 0 ] || finish
+prove_or_finish
 
 strict="-std=c99 -pedantic-errors -O2 -Wall -Wextra -Werror -Iinclude"
 sanitizers="-fsanitize=address,undefined -fno-sanitize-recover=all"

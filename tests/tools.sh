@@ -13,7 +13,7 @@
 install_or_skip objcopy binutils
 install_or_skip srec_cat srecord
 
-[ -n "${SCHOONLEECH_LIB:-}" ] || one "the library is proved" prove_library
+prove_or_finish
 one "the program over the library compiles" $cc -std=c99 -O2 -Wall -Wextra -Werror -o "$work/convert" tests/tools/convert.c \
     tests/engine/check.c "$library"
 [ "$failed" -eq 0 ] || finish

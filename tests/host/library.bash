@@ -1,21 +1,13 @@
-# Sets `library` and `board_library`, the two archives of the C calls (include/schoonleech.h) that a script links. `prove_library` and
-# `prove_board_library` prove the one and the other, and write it where it is not there, or a crate or the kit changed after it was begun:
-# that takes up to half a minute, and several scripts need it.
+# Sets `library`, the archive of the C calls (include/schoonleech.h) that a script links. `prove_library` proves it and writes it where it is
+# not there, or a crate or the kit changed after it was begun: that takes up to half a minute, and several scripts need it.
 #
-# SCHOONLEECH_LIB        an archive to use instead of the proved one; rt is then not run for it
-# SCHOONLEECH_BOARD_LIB  an archive to use instead of the board's proved one; rt is then not run for it
+# SCHOONLEECH_LIB  an archive to use instead of the proved one; rt is then not run
 #
-# Without the kit's rt the script that reads this file ends with 77 where nothing stands in for the first archive, which every script links.
-# One that links the second too ends so where it calls `rt_or_skip` or `prove_board_library` and nothing stands in for that one.
+# Without the kit's rt the script that reads this file ends with 77 where nothing stands in for the archive.
 
 . tests/host/alone.bash
 
-library=${SCHOONLEECH_LIB:-target/staticlib/libgrader.a}
-board_library=${SCHOONLEECH_BOARD_LIB:-target/staticlib/libboard.a}
-
-rt_or_skip() {
-    command -v rt >/dev/null || { echo "the Rattle kit's rt is not on the PATH"; exit 77; }
-}
+library=${SCHOONLEECH_LIB:-target/staticlib/libschoonleech.a}
 
 # What is another file where the kit is another one: rt's name on the PATH, which may be a link, the file it leads to, and the kit's
 # identity, found as rt itself finds it.
@@ -39,29 +31,24 @@ is_fresh() { # ARCHIVE
 }
 
 # An archive is as old as its beginning, so that a change during the proof makes it stale.
-prove_if_stale() { # CRATE ARCHIVE
+prove_if_stale() {
     local began status
-    is_fresh "$2" && return 0
+    is_fresh "$library" && return 0
     began=$(mktemp)
-    rt staticlib "$1" && touch -r "$began" "$2"
+    rt staticlib schoonleech && touch -r "$began" "$library"
     status=$?
     rm -f "$began"
     return $status
 }
 
 prove_library() {
-    [ -n "${SCHOONLEECH_LIB:-}" ] || alone prove_if_stale grader "$library"
+    [ -n "${SCHOONLEECH_LIB:-}" ] || alone prove_if_stale
 }
 
-prove_board_library() {
-    [ -n "${SCHOONLEECH_BOARD_LIB:-}" ] || { rt_or_skip && alone prove_if_stale board "$board_library"; }
-}
-
-# Both, each as a test of a script that counts (counting.bash), which ends where one fails.
-prove_both() {
+# The same as the first test of a script that counts (counting.bash), which ends where it fails.
+prove_or_finish() {
     [ -n "${SCHOONLEECH_LIB:-}" ] || one "the library is proved" prove_library
-    [ -n "${SCHOONLEECH_BOARD_LIB:-}" ] || { rt_or_skip; one "the board's library is proved" prove_board_library; }
     [ "$failed" -eq 0 ] || finish
 }
 
-[ -n "${SCHOONLEECH_LIB:-}" ] || rt_or_skip
+[ -n "${SCHOONLEECH_LIB:-}" ] || command -v rt >/dev/null || { echo "the Rattle kit's rt is not on the PATH"; exit 77; }
