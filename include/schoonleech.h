@@ -22,16 +22,34 @@
 extern "C" {
 #endif
 
+/* The version of this header and of the archive that is built beside it. The parts move so:
+
+   AVM_VERSION_MAJOR  with a change of layout or meaning: a program that was written against the version before may have to change
+   AVM_VERSION_MINOR  with something new beside what there was, which keeps its layout and its meaning
+   AVM_VERSION_PATCH  with a change that no program can tell but by its speed, such as of these comments
+
+   A part that moves sets those after it to 0. AVM_VERSION is all three in one number that #if can compare, two digits for each of the last
+   two: it is 10203 for version 1.2.3. */
+#define AVM_VERSION_MAJOR 1
+#define AVM_VERSION_MINOR 0
+#define AVM_VERSION_PATCH 0
+#define AVM_VERSION (AVM_VERSION_MAJOR * 10000 + AVM_VERSION_MINOR * 100 + AVM_VERSION_PATCH)
+
 /* Limits. */
 #define AVM_REGISTERS 32       /* registers, no more and no fewer                                 */
 #define AVM_WORDS_FEWEST 16    /* 32-bit words of memory: a power of two, at least this           */
 #define AVM_WORDS_MOST 16384   /* .. and at most this                                             */
 #define AVM_PROGRAM_MOST 64    /* microwords of a microprogram: at least 1 and at most this       */
 #define AVM_FETCH 0            /* the fetch address: MPC is here between two instructions         */
+#define AVM_WALK_MOST 64       /* microcycles of the longest walk that avm_check accepts          */
 #define AVM_TEXT_MOST 262144   /* bytes of an image's text that is read: at most this             */
 
 /* Bytes of the text that avm_write makes of a memory of m words. A constant where m is one, so it can be the length of an array. */
 #define AVM_WRITTEN(m) ((size_t)11 * (size_t)(m) + (size_t)12)
+
+/* Bits of a request byte. A microcycle takes both of them, one or neither, a step the first or none. */
+#define AVM_REQUEST_INTERRUPT 1
+#define AVM_REQUEST_RESET 2
 
 /* Numbers of an answer. Numbers 1 to 7 are tested before anything is done, the lowest first, and the first that applies is the answer:
    all lent places are then as lent. After 8 the completed microcycles of a run stay; see each call. avm_steps and avm_board_instruction
@@ -58,7 +76,7 @@ enum {
     AVM_BAD_ORDER = 15,           /* a data record starts before the end of the one before it; at: the line                 */
     AVM_NO_ROOM = 16,             /* the text to write does not fit; at: the bytes that it needs                            */
     AVM_WALK_LEAVES = 17,         /* a walk can leave the microprogram; at: the lowest word of a walk from which it can     */
-    AVM_WALK_NOT_BACK = 18        /* a walk is not back after 64 microcycles; at: the lowest word on which one then stands  */
+    AVM_WALK_NOT_BACK = 18        /* a walk is not back after AVM_WALK_MOST microcycles; at: the lowest word where one is   */
 };
 
 /* Two clocks, two types: a count on one can't be taken for a count on the other. */
@@ -79,9 +97,8 @@ typedef struct {
 
 /* Words of the state block, by index; AVM_STATE is their number.
 
-   AVM_PSW   program status word: z bit 0, c bit 1, n bit 2, v bit 3, ie bit 4, sm bit 5. Higher bits mean nothing. A call drops them
-             from the lent PSW, also where it has no microcycle or step to do; a refused call that completed no microcycle leaves them
-             as lent.
+   AVM_PSW   program status word: the bits AVM_PSW_Z to AVM_PSW_SM. Those above them mean nothing. A call drops them from the lent PSW,
+             also where it has no microcycle or step to do; a refused call that completed no microcycle leaves them as lent.
    AVM_PC    program counter, an address in memory words
    AVM_IR    instruction register
    AVM_MAR   memory address register, an address in memory words
@@ -91,6 +108,15 @@ typedef struct {
 
    avm_steps has no use for IR, MAR, MBR and MPC: it takes any word there, MPC too, and leaves all four as lent. */
 enum { AVM_PSW, AVM_PC, AVM_IR, AVM_MAR, AVM_MBR, AVM_MPC, AVM_IVEC, AVM_STATE };
+
+/* Bits of the PSW, as masks. */
+#define AVM_PSW_Z 0x01     /* zero              */
+#define AVM_PSW_C 0x02     /* carry             */
+#define AVM_PSW_N 0x04     /* negative          */
+#define AVM_PSW_V 0x08     /* overflow          */
+#define AVM_PSW_IE 0x10    /* interrupt enable  */
+#define AVM_PSW_SM 0x20    /* supervisor mode   */
+#define AVM_PSW_ALL 0x3F   /* all six           */
 
 /* Words of the latch block that phase calls hand on, by index; AVM_LATCHES is their number.
 
@@ -102,14 +128,104 @@ enum { AVM_PSW, AVM_PC, AVM_IR, AVM_MAR, AVM_MBR, AVM_MPC, AVM_IVEC, AVM_STATE }
    The last two hold one bit each: a word other than 0 counts as set, and unless the call is refused they come back as 0 or 1. */
 enum { AVM_ALATCH, AVM_BLATCH, AVM_IREQ, AVM_IACK, AVM_LATCHES };
 
-/* A microword is the low 40 bits of a uint64_t, the others 0. Its fields from the top, with their bits:
+/* Some bits of a word, as an unsigned: so many (width, below 32) from that one (shift) up. */
+#define AVM_BITS(word, shift, width) ((unsigned)((uint64_t)(word) >> (shift)) & ((1u << (width)) - 1u))
+
+/* Where the fields of an instruction word stand (docs/AVM1.md, section 2). Of the six bits of an opcode only the low five count.
+   AVM_INSTRUCTION_FIELD(word, OPCODE) takes a field out of a word. */
+#define AVM_INSTRUCTION_OPCODE_SHIFT 26
+#define AVM_INSTRUCTION_OPCODE_WIDTH 5
+#define AVM_INSTRUCTION_DEST_SHIFT 21
+#define AVM_INSTRUCTION_DEST_WIDTH 5
+#define AVM_INSTRUCTION_SRCA_SHIFT 16
+#define AVM_INSTRUCTION_SRCA_WIDTH 5
+#define AVM_INSTRUCTION_SRCB_SHIFT 11
+#define AVM_INSTRUCTION_SRCB_WIDTH 5
+#define AVM_INSTRUCTION_IMM_SHIFT 0
+#define AVM_INSTRUCTION_IMM_WIDTH 16
+#define AVM_INSTRUCTION_FIELD(word, field) AVM_BITS(word, AVM_INSTRUCTION_##field##_SHIFT, AVM_INSTRUCTION_##field##_WIDTH)
+
+/* A microword is the low AVM_MICROWORD_BITS bits of a uint64_t, the others 0. Its fields from the top, with their bits:
 
        AMUX 39      SHFT 38..37   ALU 36..33   MAR 32       MBR 31       PMUX 30
        SRCA 29..27  SRCB 26..25   TRGT 24..22  S.SM 21      C.SM 20      S.IE 19
        C.IE 18      LD.C 17       LD.V 16      LD.N 15      LD.Z 14      CSRC 13
        IACK 12      FTCH 11       RD 10        WR 9         COND 8..6    ADDR 5..0
 
-   Highest codes: ALU 10, SRCA 5, SRCB 2, TRGT 6, COND 4. All codes of the other fields are good. */
+   Each has a shift, which is its lowest bit, and a width; its name has an underscore for a dot here. AVM_FIELD(word, COND) takes a field
+   out of a microword. */
+#define AVM_MICROWORD_BITS 40
+#define AVM_FIELD_AMUX_SHIFT 39
+#define AVM_FIELD_AMUX_WIDTH 1
+#define AVM_FIELD_SHFT_SHIFT 37
+#define AVM_FIELD_SHFT_WIDTH 2
+#define AVM_FIELD_ALU_SHIFT 33
+#define AVM_FIELD_ALU_WIDTH 4
+#define AVM_FIELD_MAR_SHIFT 32
+#define AVM_FIELD_MAR_WIDTH 1
+#define AVM_FIELD_MBR_SHIFT 31
+#define AVM_FIELD_MBR_WIDTH 1
+#define AVM_FIELD_PMUX_SHIFT 30
+#define AVM_FIELD_PMUX_WIDTH 1
+#define AVM_FIELD_SRCA_SHIFT 27
+#define AVM_FIELD_SRCA_WIDTH 3
+#define AVM_FIELD_SRCB_SHIFT 25
+#define AVM_FIELD_SRCB_WIDTH 2
+#define AVM_FIELD_TRGT_SHIFT 22
+#define AVM_FIELD_TRGT_WIDTH 3
+#define AVM_FIELD_S_SM_SHIFT 21
+#define AVM_FIELD_S_SM_WIDTH 1
+#define AVM_FIELD_C_SM_SHIFT 20
+#define AVM_FIELD_C_SM_WIDTH 1
+#define AVM_FIELD_S_IE_SHIFT 19
+#define AVM_FIELD_S_IE_WIDTH 1
+#define AVM_FIELD_C_IE_SHIFT 18
+#define AVM_FIELD_C_IE_WIDTH 1
+#define AVM_FIELD_LD_C_SHIFT 17
+#define AVM_FIELD_LD_C_WIDTH 1
+#define AVM_FIELD_LD_V_SHIFT 16
+#define AVM_FIELD_LD_V_WIDTH 1
+#define AVM_FIELD_LD_N_SHIFT 15
+#define AVM_FIELD_LD_N_WIDTH 1
+#define AVM_FIELD_LD_Z_SHIFT 14
+#define AVM_FIELD_LD_Z_WIDTH 1
+#define AVM_FIELD_CSRC_SHIFT 13
+#define AVM_FIELD_CSRC_WIDTH 1
+#define AVM_FIELD_IACK_SHIFT 12
+#define AVM_FIELD_IACK_WIDTH 1
+#define AVM_FIELD_FTCH_SHIFT 11
+#define AVM_FIELD_FTCH_WIDTH 1
+#define AVM_FIELD_RD_SHIFT 10
+#define AVM_FIELD_RD_WIDTH 1
+#define AVM_FIELD_WR_SHIFT 9
+#define AVM_FIELD_WR_WIDTH 1
+#define AVM_FIELD_COND_SHIFT 6
+#define AVM_FIELD_COND_WIDTH 3
+#define AVM_FIELD_ADDR_SHIFT 0
+#define AVM_FIELD_ADDR_WIDTH 6
+#define AVM_FIELD(word, field) AVM_BITS(word, AVM_FIELD_##field##_SHIFT, AVM_FIELD_##field##_WIDTH)
+
+/* Highest codes. All codes of the other fields are good. */
+#define AVM_FIELD_ALU_MOST 10
+#define AVM_FIELD_SRCA_MOST 5
+#define AVM_FIELD_SRCB_MOST 2
+#define AVM_FIELD_TRGT_MOST 6
+#define AVM_FIELD_COND_MOST 4
+
+/* The codes of fields by name, from 0 (docs/AVM1.md, section 8). */
+enum { AVM_SHFT_SHL, AVM_SHFT_SHR, AVM_SHFT_ASR, AVM_SHFT_NSH };
+enum {
+    AVM_ALU_ADD, AVM_ALU_ADDC, AVM_ALU_INC, AVM_ALU_SUB, AVM_ALU_SUBC, AVM_ALU_DEC,
+    AVM_ALU_BAND, AVM_ALU_BXOR, AVM_ALU_BOR, AVM_ALU_BNOT, AVM_ALU_NOP
+};
+enum { AVM_SRCA_REG_FILE, AVM_SRCA_REG_DEST, AVM_SRCA_SSP, AVM_SRCA_PSW, AVM_SRCA_C255, AVM_SRCA_PC };
+enum { AVM_SRCB_REG_FILE, AVM_SRCB_IVEC, AVM_SRCB_IR };
+enum { AVM_TRGT_REG_FILE, AVM_TRGT_SSP, AVM_TRGT_PSW, AVM_TRGT_IR, AVM_TRGT_PC, AVM_TRGT_PCJ, AVM_TRGT_NOREG };
+enum { AVM_COND_STEP, AVM_COND_JMP, AVM_COND_JOP, AVM_COND_JINT, AVM_COND_JSM };
+
+/* The addresses that jop can lead to: the first with opcode 0, the last with opcode 31. */
+#define AVM_JOP_FIRST 4
+#define AVM_JOP_LAST 35
 
 /* Runs one microcycle for each request byte, in their order.
 
@@ -117,7 +233,8 @@ enum { AVM_ALATCH, AVM_BLATCH, AVM_IREQ, AVM_IACK, AVM_LATCHES };
    memory, m         memory, in words of 32 bits; an address is taken modulo m
    registers, count  registers 0 to 31
    state             the state block
-   requests, bytes   one byte a microcycle: 1 interrupt, 2 reset, 3 both, 0 neither; only read. Reset changes nothing in AVM-1.
+   requests, bytes   one byte a microcycle: AVM_REQUEST_INTERRUPT, AVM_REQUEST_RESET, 3 for both or 0 for neither; only read. Reset
+                     changes nothing in AVM-1.
 
    Number 0: all bytes were run. memory, registers and state are those after the last microcycle, and the answer has the microcycles done
    (that is bytes) and the returns among them. With no byte only the PSW's higher bits are dropped.
@@ -152,10 +269,11 @@ avm_answer avm_phase(const uint64_t *program, size_t words, uint32_t *memory, si
    memory, m         memory, in words of 32 bits; an address, PC too, is taken modulo m where memory is read or written
    registers, count  registers 0 to 31
    state             the state block; PSW and PC change, the others stay as lent
-   requests, bytes   one byte a step: 1 interrupt, 0 none; only read. There is no reset here: 2 and 3 are refused.
+   requests, bytes   one byte a step: AVM_REQUEST_INTERRUPT or 0; only read. There is no AVM_REQUEST_RESET here: 2 and 3 are refused.
 
-   A step is the interrupt step exactly if its byte is 1 and ie is set when it begins. That one stores PC at the supervisor stack pointer,
-   register 1, which moves up by one, sets sm, clears ie and takes the low eight bits of IVEC for PC.
+   A step is the interrupt step exactly if its byte is AVM_REQUEST_INTERRUPT and AVM_PSW_IE is set when it begins. That one stores PC at the
+   supervisor stack pointer, register 1, which moves up by one, sets AVM_PSW_SM, clears AVM_PSW_IE and takes the low eight bits of IVEC for
+   PC.
 
    Number 0: all bytes were done. memory, registers, PSW and PC are those after the last step, and the answer has the steps done (that is
    bytes) and no microcycles. With no byte only the PSW's higher bits are dropped.
@@ -185,7 +303,7 @@ avm_answer avm_board_microcycle(avm_board *board, const uint64_t *program, size_
 
    board             the board; registers, PSW and PC change. IR, MAR, MBR and MPC stay as lent, whatever they are, and so does IVEC.
    memory, m         as for avm_steps
-   request           1 interrupt, 0 none. at is 0 when it is refused with 7.
+   request           AVM_REQUEST_INTERRUPT or 0. at is 0 when it is refused with 7.
 
    Number 0: the step was done, and the PSW's higher bits were dropped. steps is 1 and microcycles 0.
    Numbers 1, 3 and 7: refused, board and memory as lent, the PSW's higher bits too. The counts are 0.
@@ -201,25 +319,25 @@ avm_answer avm_board_instruction(avm_board *board, uint32_t *memory, size_t m, u
    The possible next addresses of a word follow from its own address, its COND and its ADDR. Which of them a run takes depends on the
    opcode, the latched request, ie and sm. Here each of these may have any value at any word, whatever it was a word earlier:
 
-       COND 0  step   the next word, that is the word's own address + 1; after 63 comes 0
-            1  jmp    ADDR
-            2  jop    each address from 4 to 35
-            3  jint   ADDR and the next word
-            4  jsm    ADDR and the next word
+       AVM_COND_STEP  the next word, that is the word's own address + 1; after 63 comes 0
+       AVM_COND_JMP   ADDR
+       AVM_COND_JOP   each address from AVM_JOP_FIRST to AVM_JOP_LAST
+       AVM_COND_JINT  ADDR and the next word
+       AVM_COND_JSM   ADDR and the next word
 
    A walk starts at AVM_FETCH, goes to a possible next address in each microcycle, and ends as soon as it is back at AVM_FETCH. Its length
    is its number of microcycles: where word 0 leads to 0 alone, the one walk has length 1. A word on no walk matters for 5 alone.
 
-   Number 0: accepted. microcycles is the length of the longest walk, from 1 to 64. That promises something of avm_run: a run of this
-   program with MPC at AVM_FETCH is never answered with 8, and it is back at AVM_FETCH after at most that many microcycles, counted from the
-   start and from each return. Memory, registers, the rest of the state and the request bytes can be any that avm_run takes. All that holds
-   of a board that is advanced by avm_board_microcycle too.
+   Number 0: accepted. microcycles is the length of the longest walk, from 1 to AVM_WALK_MOST. That promises something of avm_run: a run of
+   this program with MPC at AVM_FETCH is never answered with 8, and it is back at AVM_FETCH after at most that many microcycles, counted from
+   the start and from each return. Memory, registers, the rest of the state and the request bytes can be any that avm_run takes. All that
+   holds of a board that is advanced by avm_board_microcycle too.
    Numbers 4 and 5: refused as by avm_run.
    Number 17: a walk can leave the microprogram. at is the lowest word that a walk reaches and that has a possible next address which is not
    below words.
-   Number 18: no walk can leave, but one is not back after 64 microcycles. There are 63 words besides fetch, so it was on one of them twice:
-   it goes in a circle. at is the lowest word on which such a walk stands after exactly 64 microcycles, which need not be the lowest word of
-   the circle.
+   Number 18: no walk can leave, but one is not back after AVM_WALK_MOST microcycles. There are 63 words besides fetch, so it was on one of
+   them twice: it goes in a circle. at is the lowest word on which such a walk stands after exactly AVM_WALK_MOST microcycles, which need
+   not be the lowest word of the circle.
 
    A walk may be one that no run takes: sm may be set by one word and taken as clear by a jsm right after it. So all runs may be back sooner
    than the longest walk, and a program may be refused for a walk that no run would take.
