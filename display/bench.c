@@ -1,15 +1,8 @@
 #include "bench.h"
 
-enum { NO_REQUEST = 0, INTERRUPT = 1 }; /* request bytes */
-
-size_t words_lent(const struct microprogram *program)
-{
-    return program->count < PROGRAM_ROOM ? program->count : PROGRAM_ROOM;
-}
-
 static uint8_t request_byte(const struct bench *bench)
 {
-    return bench->request ? INTERRUPT : NO_REQUEST;
+    return bench->request ? AVM_REQUEST_INTERRUPT : 0;
 }
 
 /* A refused call has the count 0 on both clocks, so each answer can be added. */
@@ -42,7 +35,7 @@ bool do_step(struct bench *bench)
 bool run_to_fetch(struct bench *bench, unsigned *done)
 {
     bench->before = bench->now;
-    for (*done = 0; *done < TO_FETCH_MOST;) {
+    for (*done = 0; *done < AVM_WALK_MOST;) {
         if (!advance(bench))
             return false;
         ++*done;

@@ -3,7 +3,7 @@
 #ifndef DISPLAY_BENCH_H
 #define DISPLAY_BENCH_H
 
-#include "../grader/microprogram.h"
+#include "../common/microprogram.h"
 
 /* All that a call can change. */
 struct moment {
@@ -22,16 +22,11 @@ struct bench {
     avm_answer answer; /* of the last call */
 };
 
-/* Microwords that are there to be lent. A file may have more than its reader keeps; it keeps enough for the library to refuse them. */
-size_t words_lent(const struct microprogram *program);
-
 /* Moves. Each is false where the library refused a call, and the answer then says why. */
 bool do_microcycle(struct bench *bench);
 bool do_step(struct bench *bench);
 
-enum { TO_FETCH_MOST = 64 };
-
-/* Microcycles until MPC is at fetch again, at most as many as that. Gives how many were done. */
+/* Microcycles until MPC is at fetch again, AVM_WALK_MOST at most. Gives how many were done. */
 bool run_to_fetch(struct bench *bench, unsigned *done);
 
 #endif

@@ -5,8 +5,7 @@ set -u
 cd "$(dirname "$0")/.." || exit 1
 . tests/host/x86_64.bash
 . tests/host/library.bash
-. display/sources.bash
 
 prove_library >&2 || { echo "build: the library is not proved" >&2; exit 1; }
 mkdir -p target/host
-$cc -std=c99 -pedantic -O2 -Wall -Wextra -Werror -Iinclude -o target/host/display $display_sources "$library"
+$cc -std=c99 -pedantic -O2 -Wall -Wextra -Werror -Iinclude -o target/host/display display/*.c common/*.c "$library"

@@ -1,6 +1,6 @@
 #include "keys.h"
 
-#include "../grader/numbers.h"
+#include "../common/numbers.h"
 
 const char *const help_lines[HELP_LINES] = {
     "    m      a microcycle: the microword at MPC",

@@ -21,7 +21,7 @@ struct session {
 /* Both lines of the message; the second may be empty. */
 void say(struct session *session, const char *first, const char *second);
 
-/* That something was refused by the last call, with the call's number and what it means, in the grader's words. */
+/* That something was refused by the last call, with the call's number and what it means. */
 void say_refused(struct session *session, const char *what, const char *consequence);
 
 void press(struct session *session, char key);

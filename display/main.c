@@ -76,7 +76,7 @@ static void show_on_terminal(struct session *session)
     }
 }
 
-static enum status serve(char **words, struct complaint *complaint)
+static int serve(char **words, struct complaint *complaint)
 {
     static struct session session;
     struct options options;
@@ -90,7 +90,7 @@ static enum status serve(char **words, struct complaint *complaint)
     } else if (options.frames || !take_terminal()) {
         show_frames(&session);
         if (ferror(stdin)) {
-            complain(complaint, BAD_FILE, "display", 0, "standard input can't be read");
+            complain(complaint, BAD_FILE, NULL, 0, "standard input can't be read");
             return BAD_FILE;
         }
     } else {
@@ -103,13 +103,6 @@ static enum status serve(char **words, struct complaint *complaint)
 int main(int argc, char **argv)
 {
     struct complaint complaint;
-    enum status status = serve(argv + (argc > 0), &complaint);
 
-    if (status == ALL_RIGHT && (fflush(stdout) != 0 || ferror(stdout))) {
-        complain(&complaint, OUTPUT_LOST, "display", 0, "the output can't be written");
-        status = OUTPUT_LOST;
-    }
-    if (status != ALL_RIGHT)
-        print_complaint(stderr, &complaint);
-    return (int)status;
+    return end_program("display", serve(argv + (argc > 0), &complaint), &complaint);
 }

@@ -2,12 +2,12 @@
 
 #include <string.h>
 
-#include "../grader/text.h"
+#include "../common/text.h"
 #include "keys.h"
 
 static bool misunderstood(struct complaint *complaint, const char *words, const char *word)
 {
-    return complain(complaint, BAD_COMMAND, "display", 0, "%s%.60s; 'display --help' says how it is called", words, word);
+    return complain(complaint, BAD_COMMAND, NULL, 0, "%s%.60s; 'display --help' says how it is called", words, word);
 }
 
 static bool bad_value(struct complaint *complaint, const char *option, const char *expected, const char *found)
@@ -16,7 +16,7 @@ static bool bad_value(struct complaint *complaint, const char *option, const cha
 
     if (found != NULL)
         quote((struct word){found, strlen(found)}, quoted);
-    return complain(complaint, BAD_COMMAND, "display", 0, "%s: expected %s, found %s", option, expected, quoted);
+    return complain(complaint, BAD_COMMAND, NULL, 0, "%s: expected %s, found %s", option, expected, quoted);
 }
 
 static bool is_number(const char *value, uint32_t most, uint32_t *place)
@@ -54,7 +54,7 @@ static bool read_setting(const char *option, const char *value, struct options *
         uint32_t *place, most;
     } numbers[] = {
         {"--pc", &options->start.pc, UINT32_MAX},
-        {"--psw", &options->start.psw, 63}, /* six bits */
+        {"--psw", &options->start.psw, AVM_PSW_ALL},
         {"--ivec", &options->start.ivec, UINT32_MAX},
         {"--mpc", &options->start.mpc, AVM_PROGRAM_MOST - 1},
     };

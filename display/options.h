@@ -2,7 +2,7 @@
 #ifndef DISPLAY_OPTIONS_H
 #define DISPLAY_OPTIONS_H
 
-#include "../grader/complaint.h"
+#include "../common/complaint.h"
 #include "schoonleech.h"
 
 enum { FILES_MOST = 2 };

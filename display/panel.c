@@ -2,7 +2,8 @@
 
 #include <string.h>
 
-#include "names.h"
+#include "../common/names.h"
+#include "fields.h"
 
 /* Rows, from the top. Memory gets all that the others leave. */
 enum {
@@ -78,11 +79,11 @@ static void draw_state(struct frame *frame, const avm_board *now, const avm_boar
 
 static void draw_flags(struct frame *frame, uint32_t now, uint32_t before)
 {
-    static const char *const flags[] = {"z", "c", "n", "v", "ie", "sm"}; /* table 5.2, p. 65 */
-    size_t column = put(frame, FLAGS_ROW, 0, "PSW%c%02lX", mark(now != before), (unsigned long)now), bit;
+    size_t column = put(frame, FLAGS_ROW, 0, "PSW%c%02lX", mark(now != before), (unsigned long)now), k;
 
-    for (bit = 6; bit-- > 0;)
-        column = put(frame, FLAGS_ROW, column + 3, "%s%c%d", flags[bit], mark(((now ^ before) >> bit & 1) != 0), (int)(now >> bit & 1));
+    for (k = 0; k < FLAGS; k++)
+        column = put(frame, FLAGS_ROW, column + 3, "%s%c%d", flags[k].name, mark(((now ^ before) & flags[k].mask) != 0),
+                     (now & flags[k].mask) != 0);
 }
 
 static void draw_instructions(struct frame *frame, const struct bench *bench)

@@ -1,8 +1,6 @@
 #include "start.h"
 
-#include <string.h>
-
-#include "../grader/image.h"
+#include "../common/image.h"
 
 static void take_published(struct microprogram *program)
 {
@@ -37,14 +35,10 @@ static void say_checked(struct session *session)
 
 static bool take_image(struct bench *bench, const char *name, struct complaint *complaint)
 {
-    static struct board board; /* the grader's: an image is read into its memory */
     struct text text;
-    bool good;
+    bool good = read_text(name, &text, complaint) && read_image(&text, bench->now.memory, bench->m, complaint);
 
-    board.m = bench->m;
-    good = read_text(name, &text, complaint) && read_image(&text, &board, complaint);
     free_text(&text);
-    memcpy(bench->now.memory, board.memory, sizeof board.memory);
     return good;
 }
 

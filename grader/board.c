@@ -2,7 +2,7 @@
 
 #include <string.h>
 
-enum { PSW_MOST = 63 }; /* six bits */
+#include "../common/names.h"
 
 /* The parts before PART_REGISTER. The request latch has no place in the state block. */
 static const struct {
@@ -11,7 +11,7 @@ static const struct {
     uint32_t most;
 } single[PART_REGISTER] = {
     {"pc", AVM_PC, UINT32_MAX},
-    {"psw", AVM_PSW, PSW_MOST},
+    {"psw", AVM_PSW, AVM_PSW_ALL},
     {"ivec", AVM_IVEC, UINT32_MAX},
     {"ir", AVM_IR, UINT32_MAX},
     {"mar", AVM_MAR, UINT32_MAX},
@@ -123,19 +123,17 @@ const char *log_value(size_t part, uint32_t value, char room[TOLD_ROOM])
     return room;
 }
 
-/* The flags are told from the highest bit down, as table 5.2 (p. 65) has them. */
 const char *told_value(size_t part, uint32_t value, char room[TOLD_ROOM])
 {
-    static const char *const flags[] = {"z", "c", "n", "v", "ie", "sm"};
-    int bit;
+    size_t k;
 
     if (part != PART_PSW)
         return plain_value(value, room);
     room[0] = '\0';
-    for (bit = 5; bit >= 0; bit--)
-        if ((value >> bit & 1) != 0) {
+    for (k = 0; k < FLAGS; k++)
+        if ((value & flags[k].mask) != 0) {
             strcat(room, room[0] == '\0' ? "" : " ");
-            strcat(room, flags[bit]);
+            strcat(room, flags[k].name);
         }
     return value == 0 ? strcpy(room, "no flag") : room;
 }

@@ -7,8 +7,8 @@
 #include <stddef.h>
 #include <stdint.h>
 
+#include "../common/text.h"
 #include "schoonleech.h"
-#include "text.h"
 
 struct board {
     uint32_t memory[AVM_WORDS_MOST];

@@ -8,4 +8,4 @@ cd "$(dirname "$0")/.." || exit 1
 
 prove_library >&2 || { echo "build: the library is not proved" >&2; exit 1; }
 mkdir -p target/host
-$cc -std=c99 -pedantic -O2 -Wall -Wextra -Werror -Iinclude -o target/host/grader grader/*.c "$library"
+$cc -std=c99 -pedantic -O2 -Wall -Wextra -Werror -Iinclude -o target/host/grader grader/*.c common/*.c "$library"

@@ -108,7 +108,7 @@ static void print_verdicts(struct columns *columns)
     fprintf(columns->out, "%-*s | %s\n", LEFT_WIDTH, left, tell_narrow_verdict(&columns->points.tally, "fetch point", right));
 }
 
-enum status mark_in_columns(FILE *out, const struct job *job, bool brief, struct complaint *complaint)
+int mark_in_columns(FILE *out, const struct job *job, bool brief, struct complaint *complaint)
 {
     static struct columns columns;
 

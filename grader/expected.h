@@ -2,8 +2,8 @@
 #ifndef GRADER_EXPECTED_H
 #define GRADER_EXPECTED_H
 
+#include "../common/text.h"
 #include "board.h"
-#include "text.h"
 
 struct expected {
     const struct text *text;

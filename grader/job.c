@@ -1,6 +1,6 @@
 #include "job.h"
 
-#include "image.h"
+#include "../common/image.h"
 
 bool judge_job(struct job *job, struct complaint *complaint)
 {
@@ -8,7 +8,7 @@ bool judge_job(struct job *job, struct complaint *complaint)
 
     return read_microprogram(&job->texts[MICROPROGRAM], &job->program, complaint) &&
            read_requests(&job->texts[REQUESTS], &job->requests, complaint) &&
-           read_image(&job->texts[IMAGE], start, complaint) &&
+           read_image(&job->texts[IMAGE], start->memory, start->m, complaint) &&
            (job->files < FILES || read_expected(&job->texts[EXPECTED], start->m, &job->expected, complaint));
 }
 

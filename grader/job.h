@@ -2,8 +2,8 @@
 #ifndef GRADER_JOB_H
 #define GRADER_JOB_H
 
+#include "../common/microprogram.h"
 #include "expected.h"
-#include "microprogram.h"
 #include "requests.h"
 
 /* The files in the order of the command line. */

@@ -62,7 +62,7 @@ static void mark_ends(struct list *list)
                 (unsigned long long)tally->expected + 1, points);
 }
 
-enum status mark_in_list(FILE *out, const struct job *job, bool brief, struct complaint *complaint)
+int mark_in_list(FILE *out, const struct job *job, bool brief, struct complaint *complaint)
 {
     static struct list list;
     char verdict[VERDICT_ROOM];

@@ -3,10 +3,10 @@
 #include "options.h"
 #include "recording.h"
 
-static enum status run_job(const struct options *options, struct complaint *complaint)
+static int run_job(const struct options *options, struct complaint *complaint)
 {
     static struct job job;
-    enum status status;
+    int status;
 
     if (!read_job(&job, options->names, options->files, complaint))
         status = complaint->status;
@@ -20,7 +20,7 @@ static enum status run_job(const struct options *options, struct complaint *comp
     return status;
 }
 
-static enum status serve(int argc, char **argv, struct complaint *complaint)
+static int serve(int argc, char **argv, struct complaint *complaint)
 {
     struct options options;
 
@@ -38,14 +38,6 @@ static enum status serve(int argc, char **argv, struct complaint *complaint)
 int main(int argc, char **argv)
 {
     struct complaint complaint;
-    enum status status = serve(argc, argv, &complaint);
 
-    if (status > SOME_WRONG)
-        print_complaint(stderr, &complaint);
-    else if (fflush(stdout) != 0 || ferror(stdout)) {
-        complain(&complaint, OUTPUT_LOST, NULL, 0, "the output can't be written");
-        print_complaint(stderr, &complaint);
-        status = OUTPUT_LOST;
-    }
-    return (int)status;
+    return end_program("grader", serve(argc, argv, &complaint), &complaint);
 }

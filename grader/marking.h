@@ -6,10 +6,12 @@
 #include "run.h"
 #include "tally.h"
 
+enum { SOME_WRONG = 1 }; /* the status of a run that is not marked right */
+
 /* Marks the fetch points in a list, or beside the microcycles in two columns. Brief is without what is right. The status is ALL_RIGHT,
    SOME_WRONG, or that of the complaint. */
-enum status mark_in_list(FILE *out, const struct job *job, bool brief, struct complaint *complaint);
-enum status mark_in_columns(FILE *out, const struct job *job, bool brief, struct complaint *complaint);
+int mark_in_list(FILE *out, const struct job *job, bool brief, struct complaint *complaint);
+int mark_in_columns(FILE *out, const struct job *job, bool brief, struct complaint *complaint);
 
 /* Says what was judged and will be run. */
 void print_judged(FILE *out, const struct job *job);

@@ -47,7 +47,7 @@ static bool comes_to_a_point(struct run *run, const struct job *job, struct comp
                     "the run ends before its first fetch point, and a log needs one; let it run longer");
 }
 
-enum status record(FILE *out, const struct job *job, bool microcycles, struct complaint *complaint)
+int record(FILE *out, const struct job *job, bool microcycles, struct complaint *complaint)
 {
     static struct run run;
     static struct board last_point, last_microcycle;

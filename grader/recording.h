@@ -6,6 +6,6 @@
 
 /* Prints a line for each fetch point, and for each microcycle if they are wanted. The status is ALL_RIGHT, or that of the complaint, such
    as the one about a run that ends before its first fetch point. */
-enum status record(FILE *out, const struct job *job, bool microcycles, struct complaint *complaint);
+int record(FILE *out, const struct job *job, bool microcycles, struct complaint *complaint);
 
 #endif

@@ -69,9 +69,10 @@ static bool read_setting(struct reading *reading, struct word word)
 
 static bool word_is_request(struct word word, uint8_t *request)
 {
-    static const char *const names[] = {"none", "interrupt", "reset", "both"};
+    enum { BOTH = AVM_REQUEST_INTERRUPT | AVM_REQUEST_RESET };
+    static const char *const names[] = {"none", [AVM_REQUEST_INTERRUPT] = "interrupt", [AVM_REQUEST_RESET] = "reset", [BOTH] = "both"};
 
-    for (*request = 0; *request < 4; ++*request)
+    for (*request = 0; *request <= BOTH; ++*request)
         if (word_is(word, names[*request]))
             return true;
     return false;

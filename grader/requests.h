@@ -2,8 +2,8 @@
 #ifndef GRADER_REQUESTS_H
 #define GRADER_REQUESTS_H
 
+#include "../common/text.h"
 #include "board.h"
-#include "text.h"
 
 enum { MICROCYCLES_MOST = 1000000000 };
 

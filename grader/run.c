@@ -1,9 +1,7 @@
 #include "run.h"
 
-#include "numbers.h"
-
-enum { INTERRUPT = 1 }; /* the interrupt bit of a request byte */
-enum { IE = 1 << 4 };   /* of the PSW, table 5.2, p. 65 */
+#include "../common/names.h"
+#include "../common/numbers.h"
 
 void start_run(struct run *run, const struct microprogram *program, const struct requests *requests)
 {
@@ -24,9 +22,9 @@ static struct step step_from(const struct board *board)
 {
     struct step step;
 
-    step.interrupt = board->ireq == 1 && (board->state[AVM_PSW] & IE) != 0;
+    step.interrupt = board->ireq == 1 && (board->state[AVM_PSW] & AVM_PSW_IE) != 0;
     step.address = board->state[AVM_PC] % (uint32_t)board->m;
-    step.opcode = board->memory[step.address] >> 26 & 31;
+    step.opcode = AVM_INSTRUCTION_FIELD(board->memory[step.address], OPCODE);
     return step;
 }
 
@@ -39,7 +37,7 @@ bool next_microcycle(struct run *run)
     if (run->done.count == run->until.count)
         return false;
     request = request_of(&run->requests, run->done.count + 1);
-    board->ireq = request & INTERRUPT;
+    board->ireq = (request & AVM_REQUEST_INTERRUPT) != 0;
     if (board->state[AVM_MPC] == AVM_FETCH)
         run->step = step_from(board);
     answer = avm_run(run->program->words, run->program->count, board->memory, board->m, board->registers, AVM_REGISTERS, board->state,
@@ -62,19 +60,11 @@ bool run_was_good(const struct run *run, struct complaint *complaint)
                     (unsigned long long)run->done.count + 1, meaning(run->refused.number), (unsigned)run->refused.number);
 }
 
-/* Table 5.7, p. 76: a group of opcodes a line. */
-static const char *const mnemonics[32] = {
-    "JMP", "CALL", "INT", "RTI", "GPSW", "PPSW", "LD", "ST",
-    "LSL", "LSR", "ASR", "RTN", "NOOP", "NOOP", "LDI", "STI",
-    "ADD", "ADDC", "SUB", "SUBC", "BAND", "BOR", "BXOR", "BNOT",
-    "ADDI", "ADDCI", "SUBI", "SUBCI", "BANDI", "BORI", "BXORI", "NOOP",
-};
-
 const char *tell_step(struct step step, char room[STEP_ROOM])
 {
     if (step.interrupt)
         snprintf(room, STEP_ROOM, "interrupt step");
     else
-        snprintf(room, STEP_ROOM, "%s at %lu", mnemonics[step.opcode], (unsigned long)step.address);
+        snprintf(room, STEP_ROOM, "%s at %lu", mnemonic(step.opcode), (unsigned long)step.address);
     return room;
 }

@@ -2,7 +2,7 @@
 #ifndef GRADER_RUN_H
 #define GRADER_RUN_H
 
-#include "microprogram.h"
+#include "../common/microprogram.h"
 #include "progress.h"
 #include "requests.h"
 

@@ -329,9 +329,9 @@ avm_answer avm_board_instruction(avm_board *board, uint32_t *memory, size_t m, u
    is its number of microcycles: where word 0 leads to 0 alone, the one walk has length 1. A word on no walk matters for 5 alone.
 
    Number 0: accepted. microcycles is the length of the longest walk, from 1 to AVM_WALK_MOST. That promises something of avm_run: a run of
-   this program with MPC at AVM_FETCH is never answered with 8, and it is back at AVM_FETCH after at most that many microcycles, counted from
-   the start and from each return. Memory, registers, the rest of the state and the request bytes can be any that avm_run takes. All that
-   holds of a board that is advanced by avm_board_microcycle too.
+   this program with MPC at AVM_FETCH is never answered with 8, and it is back at AVM_FETCH after at most that many microcycles, counted
+   from the start and from each return. Memory, registers, the rest of the state and the request bytes can be any that avm_run takes. All
+   that holds of a board that is advanced by avm_board_microcycle too.
    Numbers 4 and 5: refused as by avm_run.
    Number 17: a walk can leave the microprogram. at is the lowest word that a walk reaches and that has a possible next address which is not
    below words.

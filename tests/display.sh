@@ -5,7 +5,6 @@
 . tests/host/counting.bash
 . tests/host/x86_64.bash
 . tests/host/library.bash
-. display/sources.bash
 
 prove_or_finish
 
@@ -17,14 +16,14 @@ files=$work/files
 mkdir "$files" && cp $story/published.microprogram $story/sum.hex $first/light.hex "$files"
 builds=plain
 
-one "the display is C99 without extensions" $cc $strict -fsyntax-only $display_sources
+one "the display is C99 without extensions" $cc $strict -fsyntax-only display/*.c common/*.c
 one "display/build.sh builds it" env SCHOONLEECH_LIB="$library" bash display/build.sh
 cp target/host/display "$work/plain" || finish
 
 # Sanitizers need a library of the compiler's, and the emulator can't run them.
 echo 'int main(void) { return 0; }' >"$work/empty.c"
 if [ -z "$emulator" ] && $cc $sanitizers -o "$work/empty" "$work/empty.c" 2>/dev/null && "$work/empty"; then
-    one "the display compiles with sanitizers" $cc $strict $sanitizers -o "$work/sanitized" $display_sources "$library"
+    one "the display compiles with sanitizers" $cc $strict $sanitizers -o "$work/sanitized" display/*.c common/*.c "$library"
     builds="plain sanitized"
 fi
 
@@ -139,7 +138,7 @@ bad_value --register "$register" "'1'" 1
 bad_value --register "$register" "'=1'" =1
 bad_value --register "$register" nothing
 
-# Files, in the words of the grader, which reads them.
+# Files, in the words that the grader has for them too.
 
 one "a file that is not there" refuses 3 "none: can't be read: No such file or directory" none light.hex
 one "an image that is not there" refuses 3 "none: can't be read: No such file or directory" --published none
@@ -433,7 +432,7 @@ file long.microprogram "$(times 5000 x | sed 's/x/742D800040\\n/g')"
 refused 4 "the microprogram has too few or too many words" "the microcycle" im --unchecked long.microprogram light.hex
 file code.microprogram "742D800040\n762D800040\n"
 refused 5 "word 1: the microword has a bit or a code that no table names" "the microcycle" im --unchecked code.microprogram light.hex
-refused 6 "MPC stands outside the microprogram, or the phase number is above 3" "the microcycle" m --mpc 1 one.microprogram light.hex
+refused 6 "MPC stands outside the microprogram" "the microcycle" m --mpc 1 one.microprogram light.hex
 leaves="--unchecked leaves.microprogram light.hex"
 refused 8 "a microcycle would leave the microprogram" "the microcycle" mm $leaves
 refused 8 "a microcycle would leave the microprogram" "microcycle 1 of these" mf $leaves

@@ -17,6 +17,18 @@ one ".. and its calls and numbers fit in C" $emulator "$work/use-c"
 one "the header is C++" $cxx -pedantic-errors $strict -o "$work/use-cpp" -x c++ $use -x none "$library"
 one ".. and its calls and numbers fit in C++" $emulator "$work/use-cpp"
 
+# What is compared with the library decodes by itself, from the page: of these only header_use knows the header's names for bits, fields and
+# codes. No code of grader and display serves here either; tests/grader/garbage.c has the grader's, since it is about the grader.
+names='AVM_(VERSION|WALK_MOST|REQUEST_|PSW_|BITS|INSTRUCTION_|MICROWORD_|FIELD|SHFT_|ALU_|SRCA_|SRCB_|TRGT_|COND_|JOP_)'
+share_no_names() {
+    ! grep -rnE "$names" tests bench --include='*.[ch]' --exclude=header_use.c
+}
+share_no_code() {
+    ! grep -rnE '#include.*(common|grader|display)/' tests bench --include='*.[ch]' --exclude=garbage.c
+}
+one "tests and measurements decode by themselves" share_no_names
+one "tests and measurements share no code with grader and display" share_no_code
+
 sources=$(ls tests/engine/*.c | grep -v header_use)
 one "tests and second simulator compile" $cc -std=c99 $strict -o "$work/tests" $sources tests/simulator/*.c "$library"
 [ -x "$work/tests" ] || finish

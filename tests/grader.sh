@@ -9,13 +9,13 @@ prove_or_finish
 
 strict="-std=c99 -pedantic-errors -O2 -Wall -Wextra -Werror -Iinclude"
 sanitizers="-fsanitize=address,undefined -fno-sanitize-recover=all"
-pieces=$(ls grader/*.c | grep -v main.c)
+pieces=$(ls grader/*.c common/*.c | grep -v main.c)
 story=grader/story
 files=$work/files
 mkdir "$files" && cp $story/* "$files"
 builds=plain
 
-one "the grader is C99 without extensions" $cc $strict -o "$work/plain" grader/*.c "$library"
+one "the grader is C99 without extensions" $cc $strict -o "$work/plain" grader/*.c common/*.c "$library"
 [ -x "$work/plain" ] || finish
 
 # Sanitizers need a library of the compiler's, and the emulator can't run them.
@@ -520,7 +520,8 @@ one ".. and nowhere else" no_progress_in_a_pipe
 
 # A library that breaks its promises, and damaged files.
 
-one "the grader with a broken library" $cc $strict -Wl,--wrap=avm_run -o "$work/broken" grader/*.c tests/grader/broken_run.c "$library"
+one "the grader with a broken library" \
+    $cc $strict -Wl,--wrap=avm_run -o "$work/broken" grader/*.c common/*.c tests/grader/broken_run.c "$library"
 broken_library_is_told() { # OPTION..
     run broken "$@"
     [ "$status" -eq 4 ] && ! grep -q '^right\|^wrong' "$work/out" &&

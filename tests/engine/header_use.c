@@ -2,10 +2,24 @@
 #include "../../include/schoonleech.h"
 #include "../../include/schoonleech.h"
 
+/* The preprocessor can compare the constants that are macros. */
+#if AVM_VERSION != AVM_VERSION_MAJOR * 10000 + AVM_VERSION_MINOR * 100 + AVM_VERSION_PATCH || AVM_VERSION < 10000
+#error the version is not the number of its parts
+#endif
+#if (AVM_REQUEST_INTERRUPT | AVM_REQUEST_RESET) != 3 || AVM_PSW_ALL != 63 || AVM_FIELD_COND_MOST >= 1 << AVM_FIELD_COND_WIDTH
+#error a constant has another value here
+#endif
+
+static int version_fits(void)
+{
+    return AVM_VERSION_MAJOR == 1 && AVM_VERSION_MINOR == 0 && AVM_VERSION_PATCH == 0 && AVM_VERSION == 10000;
+}
+
 static int limits_fit(void)
 {
     return AVM_REGISTERS == 32 && AVM_WORDS_FEWEST == 16 && AVM_WORDS_MOST == 16384 && AVM_PROGRAM_MOST == 64 && AVM_FETCH == 0 &&
-           AVM_TEXT_MOST == 262144 && AVM_WRITTEN(16) == 188 && AVM_WRITTEN(8 + 8) == 188 && AVM_WRITTEN(AVM_WORDS_MOST) * 2 == 360472;
+           AVM_WALK_MOST == 64 && AVM_TEXT_MOST == 262144 && AVM_WRITTEN(16) == 188 && AVM_WRITTEN(8 + 8) == 188 &&
+           AVM_WRITTEN(AVM_WORDS_MOST) * 2 == 360472;
 }
 
 static int numbers_fit(void)
@@ -28,6 +42,162 @@ static int board_fits(void)
     return sizeof(avm_board) == 156 && offsetof(avm_board, registers) == 0 && offsetof(avm_board, psw) == 128 &&
            offsetof(avm_board, pc) == 132 && offsetof(avm_board, ir) == 136 && offsetof(avm_board, mar) == 140 &&
            offsetof(avm_board, mbr) == 144 && offsetof(avm_board, mpc) == 148 && offsetof(avm_board, ivec) == 152;
+}
+
+enum { FIELDS = 24 };
+
+#define EACH_FIELD(of) \
+    of(AMUX), of(SHFT), of(ALU), of(MAR), of(MBR), of(PMUX), of(SRCA), of(SRCB), of(TRGT), of(S_SM), of(C_SM), of(S_IE), of(C_IE), \
+    of(LD_C), of(LD_V), of(LD_N), of(LD_Z), of(CSRC), of(IACK), of(FTCH), of(RD), of(WR), of(COND), of(ADDR)
+#define SHIFT_OF(field) AVM_FIELD_##field##_SHIFT
+#define WIDTH_OF(field) AVM_FIELD_##field##_WIDTH
+
+/* From the top each field begins where the one before it ends, down to bit 0. */
+static int fields_tile_a_microword(void)
+{
+    static const int shifts[FIELDS] = {EACH_FIELD(SHIFT_OF)}, widths[FIELDS] = {EACH_FIELD(WIDTH_OF)};
+    int end = AVM_MICROWORD_BITS, k;
+
+    for (k = 0; k < FIELDS; end = shifts[k], k++)
+        if (widths[k] < 1 || shifts[k] + widths[k] != end)
+            return 0;
+    return end == 0 && AVM_MICROWORD_BITS == 40;
+}
+
+/* Words of the published microprogram as docs/MICROPROGRAM.md has them, each field in its place. No word of it has FTCH or jsm. */
+static int fields_fit(void)
+{
+#define CODE_OF(field) AVM_FIELD(word, field)
+    static const struct {
+        unsigned address, codes[FIELDS];
+    } known[] = {
+        {0, {0, AVM_SHFT_NSH, AVM_ALU_NOP, 1, 0, 1, AVM_SRCA_PC, AVM_SRCB_IR, AVM_TRGT_NOREG, 0, 0, 0, 0, 0, 0, 0, 0, 0,
+             0, 0, 1, 0, AVM_COND_JINT, 49}},
+        {2, {0, AVM_SHFT_NSH, AVM_ALU_INC, 0, 0, 0, AVM_SRCA_PC, AVM_SRCB_IR, AVM_TRGT_PC, 0, 0, 0, 0, 0, 0, 0, 0, 0,
+             0, 0, 0, 0, AVM_COND_JOP, 0}},
+        {4, {0, AVM_SHFT_NSH, AVM_ALU_ADD, 0, 0, 0, AVM_SRCA_REG_FILE, AVM_SRCB_IR, AVM_TRGT_PCJ, 0, 0, 0, 0, 0, 0, 0, 0, 0,
+             0, 0, 0, 0, AVM_COND_JMP, 0}},
+        {9, {0, AVM_SHFT_NSH, AVM_ALU_NOP, 0, 0, 0, AVM_SRCA_REG_DEST, AVM_SRCB_IR, AVM_TRGT_PSW, 0, 0, 0, 0, 0, 0, 0, 0, 0,
+             0, 0, 0, 0, AVM_COND_JMP, 0}},
+        {13, {0, AVM_SHFT_SHR, AVM_ALU_NOP, 0, 0, 0, AVM_SRCA_REG_FILE, AVM_SRCB_IR, AVM_TRGT_REG_FILE, 0, 0, 0, 0, 1, 0, 0, 0, 0,
+              0, 0, 0, 0, AVM_COND_JMP, 0}},
+        {23, {0, AVM_SHFT_NSH, AVM_ALU_SUBC, 0, 0, 0, AVM_SRCA_REG_FILE, AVM_SRCB_REG_FILE, AVM_TRGT_REG_FILE, 0, 0, 0, 0, 1, 1, 1, 1, 1,
+              0, 0, 0, 0, AVM_COND_JMP, 0}},
+        {27, {0, AVM_SHFT_NSH, AVM_ALU_BNOT, 0, 0, 0, AVM_SRCA_REG_FILE, AVM_SRCB_IR, AVM_TRGT_REG_FILE, 0, 0, 0, 0, 0, 0, 1, 1, 0,
+              0, 0, 0, 0, AVM_COND_JMP, 0}},
+        {44, {1, AVM_SHFT_NSH, AVM_ALU_NOP, 0, 0, 0, AVM_SRCA_PC, AVM_SRCB_IR, AVM_TRGT_PC, 0, 1, 1, 0, 0, 0, 0, 0, 0,
+              0, 0, 0, 0, AVM_COND_JMP, 0}},
+        {47, {0, AVM_SHFT_NSH, AVM_ALU_NOP, 0, 1, 0, AVM_SRCA_REG_DEST, AVM_SRCB_IR, AVM_TRGT_NOREG, 0, 0, 0, 0, 0, 0, 0, 0, 0,
+              0, 0, 0, 0, AVM_COND_STEP, 0}},
+        {49, {0, AVM_SHFT_NSH, AVM_ALU_NOP, 1, 0, 0, AVM_SRCA_SSP, AVM_SRCB_IR, AVM_TRGT_NOREG, 1, 0, 0, 1, 0, 0, 0, 0, 0,
+              1, 0, 0, 0, AVM_COND_STEP, 0}},
+        {51, {0, AVM_SHFT_NSH, AVM_ALU_BAND, 0, 0, 0, AVM_SRCA_C255, AVM_SRCB_IVEC, AVM_TRGT_PC, 0, 0, 0, 0, 0, 0, 0, 0, 0,
+              0, 0, 0, 1, AVM_COND_STEP, 0}},
+    };
+    size_t k, field;
+
+    for (k = 0; k < sizeof known / sizeof known[0]; k++) {
+        const uint64_t word = avm_published(known[k].address);
+        const unsigned codes[FIELDS] = {EACH_FIELD(CODE_OF)};
+
+        for (field = 0; field < FIELDS; field++)
+            if (codes[field] != known[k].codes[field])
+                return 0;
+    }
+    return 1;
+}
+
+/* The codes that those words do not have. */
+static int codes_fit(void)
+{
+    return AVM_SHFT_SHL == 0 && AVM_SHFT_ASR == 2 && AVM_ALU_ADDC == 1 && AVM_ALU_SUB == 3 && AVM_ALU_DEC == 5 && AVM_ALU_BXOR == 7 &&
+           AVM_ALU_BOR == 8 && AVM_SRCA_PSW == 3 && AVM_TRGT_SSP == 1 && AVM_TRGT_IR == 3 && AVM_COND_JSM == 4;
+}
+
+/* A word that does nothing and leads to fetch, with another code in a field. */
+static int code_is_taken(int shift, int width, unsigned code)
+{
+    const uint64_t field = ((UINT64_C(1) << width) - 1) << shift, word = (UINT64_C(0x742D800040) & ~field) | (uint64_t)code << shift;
+
+    return avm_check(&word, 1).number != AVM_BAD_MICROWORD;
+}
+
+static int highest_codes_fit(void)
+{
+#define IS_HIGHEST(field) \
+    (code_is_taken(AVM_FIELD_##field##_SHIFT, AVM_FIELD_##field##_WIDTH, AVM_FIELD_##field##_MOST) && \
+     !code_is_taken(AVM_FIELD_##field##_SHIFT, AVM_FIELD_##field##_WIDTH, AVM_FIELD_##field##_MOST + 1))
+    return IS_HIGHEST(ALU) && IS_HIGHEST(SRCA) && IS_HIGHEST(SRCB) && IS_HIGHEST(TRGT) && IS_HIGHEST(COND) &&
+           !code_is_taken(AVM_MICROWORD_BITS, 1, 1);
+}
+
+/* LD r3 r4 r5 with bit 31 set, which does not count, and ADDI r31 r0 65534. */
+static int instruction_fields_fit(void)
+{
+    const uint32_t ld = 0x98642800, addi = 0x63E0FFFE;
+
+    return AVM_INSTRUCTION_FIELD(ld, OPCODE) == 6 && AVM_INSTRUCTION_FIELD(ld, DEST) == 3 && AVM_INSTRUCTION_FIELD(ld, SRCA) == 4 &&
+           AVM_INSTRUCTION_FIELD(ld, SRCB) == 5 && AVM_INSTRUCTION_FIELD(addi, OPCODE) == 24 && AVM_INSTRUCTION_FIELD(addi, DEST) == 31 &&
+           AVM_INSTRUCTION_FIELD(addi, SRCA) == 0 && AVM_INSTRUCTION_FIELD(addi, IMM) == 65534;
+}
+
+/* From a word with jop the opcode in IR leads on. */
+static uint32_t address_after_jop(uint32_t opcode)
+{
+    static const uint8_t no_request = 0;
+    uint32_t memory[AVM_WORDS_FEWEST] = {0}, registers[AVM_REGISTERS] = {0}, state[AVM_STATE] = {0};
+    uint64_t program[AVM_PROGRAM_MOST];
+    size_t k;
+
+    for (k = 0; k < AVM_PROGRAM_MOST; k++)
+        program[k] = (uint64_t)AVM_TRGT_NOREG << AVM_FIELD_TRGT_SHIFT | (uint64_t)AVM_COND_JOP << AVM_FIELD_COND_SHIFT;
+    state[AVM_IR] = opcode << AVM_INSTRUCTION_OPCODE_SHIFT;
+    avm_run(program, AVM_PROGRAM_MOST, memory, AVM_WORDS_FEWEST, registers, AVM_REGISTERS, state, &no_request, 1);
+    return state[AVM_MPC];
+}
+
+static int jop_fits(void)
+{
+    return address_after_jop(0) == AVM_JOP_FIRST && address_after_jop(31) == AVM_JOP_LAST;
+}
+
+/* 64 words that each lead to the next have one walk, the longest that is accepted. */
+static int longest_walk_fits(void)
+{
+    uint64_t program[AVM_PROGRAM_MOST];
+    avm_answer answer;
+    size_t k;
+
+    for (k = 0; k < AVM_PROGRAM_MOST; k++)
+        program[k] = UINT64_C(0x742D800000);
+    answer = avm_check(program, AVM_PROGRAM_MOST);
+    return answer.number == AVM_DONE && answer.microcycles.count == AVM_WALK_MOST;
+}
+
+/* 0 + 0, 0 - 1, -1 + 1 and the largest number + 1, and then the interrupt step. */
+static int flags_fit(void)
+{
+    static const uint32_t flags[4] = {AVM_PSW_Z, AVM_PSW_N, AVM_PSW_Z | AVM_PSW_C, AVM_PSW_N | AVM_PSW_V};
+    const uint8_t none = 0, interrupt = AVM_REQUEST_INTERRUPT, reset = AVM_REQUEST_RESET;
+    uint32_t memory[AVM_WORDS_FEWEST] = {0x61000000, 0x69000001, 0x61080001, 0x61290001};
+    uint32_t registers[AVM_REGISTERS] = {0}, state[AVM_STATE] = {0};
+    size_t k;
+
+    registers[9] = 0x7FFFFFFF;
+    for (k = 0; k < 4; k++) {
+        avm_steps(memory, AVM_WORDS_FEWEST, registers, AVM_REGISTERS, state, &none, 1);
+        if (state[AVM_PSW] != flags[k])
+            return 0;
+    }
+    state[AVM_PSW] = AVM_PSW_Z | AVM_PSW_IE;
+    if (avm_steps(memory, AVM_WORDS_FEWEST, registers, AVM_REGISTERS, state, &reset, 1).number != AVM_BAD_REQUEST)
+        return 0;
+    avm_steps(memory, AVM_WORDS_FEWEST, registers, AVM_REGISTERS, state, &interrupt, 1);
+    if (state[AVM_PSW] != (AVM_PSW_Z | AVM_PSW_SM) || state[AVM_PC] != 0 || memory[0] != 4)
+        return 0;
+    state[AVM_PSW] = UINT32_MAX;
+    avm_steps(memory, AVM_WORDS_FEWEST, registers, AVM_REGISTERS, state, NULL, 0);
+    return state[AVM_PSW] == AVM_PSW_ALL;
 }
 
 /* A microprogram of one word that leads to itself: two microcycles, two returns, and then phase one. */
@@ -139,7 +309,9 @@ static int image_fits(void)
 
 int main(void)
 {
-    int names_fit = limits_fit() && numbers_fit() && places_fit() && board_fits();
+    int names_fit = version_fits() && limits_fit() && numbers_fit() && places_fit() && board_fits() && fields_tile_a_microword() &&
+                    fields_fit() && codes_fit() && highest_codes_fit() && instruction_fields_fit() && jop_fits() &&
+                    longest_walk_fits() && flags_fit();
 
     return names_fit && calls_fit() && steps_fit() && board_calls_fit() && published_fits() && check_fits() && image_fits() ? 0 : 1;
 }

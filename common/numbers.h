@@ -1,6 +1,6 @@
 /* The one place that turns a number of the library's answers into words: what it means, what was found, and what was expected. */
-#ifndef GRADER_NUMBERS_H
-#define GRADER_NUMBERS_H
+#ifndef COMMON_NUMBERS_H
+#define COMMON_NUMBERS_H
 
 #include "complaint.h"
 #include "schoonleech.h"

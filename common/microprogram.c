@@ -31,7 +31,7 @@ static size_t refused_line(const struct microprogram *program, avm_answer answer
 
 static bool check_words(const struct text *text, struct microprogram *program, struct complaint *complaint)
 {
-    avm_answer answer = avm_check(program->words, program->count < PROGRAM_ROOM ? program->count : PROGRAM_ROOM);
+    avm_answer answer = avm_check(program->words, words_lent(program));
     char words[WORDS_ROOM];
 
     program->longest = answer.microcycles;
@@ -44,6 +44,11 @@ static bool check_words(const struct text *text, struct microprogram *program, s
 bool read_microprogram(const struct text *text, struct microprogram *program, struct complaint *complaint)
 {
     return read_words(text, program, complaint) && check_words(text, program, complaint);
+}
+
+size_t words_lent(const struct microprogram *program)
+{
+    return program->count < PROGRAM_ROOM ? program->count : PROGRAM_ROOM;
 }
 
 void print_published(FILE *out)

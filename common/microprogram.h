@@ -1,6 +1,6 @@
 /* Microprogram files: one microword a line, in hexadecimal digits, from word 0 on. */
-#ifndef GRADER_MICROPROGRAM_H
-#define GRADER_MICROPROGRAM_H
+#ifndef COMMON_MICROPROGRAM_H
+#define COMMON_MICROPROGRAM_H
 
 #include "schoonleech.h"
 #include "text.h"
@@ -16,6 +16,9 @@ struct microprogram {
 
 /* Reads a microprogram and has avm_check accept it. */
 bool read_microprogram(const struct text *text, struct microprogram *program, struct complaint *complaint);
+
+/* Microwords that are there to be lent: enough for the library to refuse them where the file has too many. */
+size_t words_lent(const struct microprogram *program);
 
 /* Prints the published microprogram as such a file. */
 void print_published(FILE *out);

@@ -3,6 +3,7 @@
 #include <stdarg.h>
 #include <string.h>
 
+#include "names.h"
 #include "text.h"
 
 const char *meaning(uint64_t number)
@@ -14,7 +15,7 @@ const char *meaning(uint64_t number)
         "register 0 does not hold 0",
         "the microprogram has too few or too many words",
         "the microword has a bit or a code that no table names",
-        "MPC stands outside the microprogram, or the phase number is above 3",
+        "MPC stands outside the microprogram",
         "a request byte is out of range",
         "a microcycle would leave the microprogram",
         "the text is too long",
@@ -43,40 +44,30 @@ static void tell(char room[WORDS_ROOM], uint64_t number, const char *format, ...
     va_end(values);
 }
 
-/* The fields of a microword that have codes which no table names (tables 5.13 to 5.18, pp. 120-123). */
-static const struct field {
-    const char *name;
-    unsigned shift, width, most;
-} fields[] = {{"ALU", 33, 4, 10}, {"SRCA", 27, 3, 5}, {"SRCB", 25, 2, 2}, {"TRGT", 22, 3, 6}, {"COND", 6, 3, 4}};
-
-static unsigned field_of(uint64_t word, const struct field *field)
-{
-    return (unsigned)(word >> field->shift) & ((1u << field->width) - 1);
-}
-
+/* Of several fields with a code that no table names the first one from the top is told. */
 static void tell_microword(size_t at, uint64_t word, char room[WORDS_ROOM])
 {
-    size_t k;
+    const struct field *field = fields;
 
-    for (k = 0; k + 1 < sizeof fields / sizeof fields[0] && field_of(word, &fields[k]) <= fields[k].most; k++)
-        continue;
-    if (word >> 40 != 0)
-        tell(room, AVM_BAD_MICROWORD, "expected no bit above 39 in word %zu, found 0x%llX", at, (unsigned long long)word);
+    while (field < fields + FIELDS - 1 && code_of(field, word) <= field->most)
+        field++;
+    if (word >> AVM_MICROWORD_BITS != 0)
+        tell(room, AVM_BAD_MICROWORD, "expected no bit above %d in word %zu, found 0x%llX", AVM_MICROWORD_BITS - 1, at,
+             (unsigned long long)word);
     else
-        tell(room, AVM_BAD_MICROWORD, "expected a code from 0 to %u in field %s of word %zu, found %u", fields[k].most, fields[k].name,
-             at, field_of(word, &fields[k]));
+        tell(room, AVM_BAD_MICROWORD, "expected a code from 0 to %u in field %s of word %zu, found %u", field->most, field->name, at,
+             code_of(field, word));
 }
 
 /* An address outside that a word can lead to, as avm_check counts its next addresses. */
 static size_t outside(size_t at, uint64_t word, size_t words)
 {
-    enum { STEP = 0, JOP = 2 }; /* of COND */
-    unsigned condition = (unsigned)(word >> 6 & 7);
-    size_t address = (size_t)(word & 63);
+    unsigned condition = AVM_FIELD(word, COND);
+    size_t address = AVM_FIELD(word, ADDR);
 
-    if (condition == JOP)
-        return words < 4 ? 4 : words;
-    return condition == STEP || address < words ? at + 1 : address;
+    if (condition == AVM_COND_JOP)
+        return words < AVM_JOP_FIRST ? AVM_JOP_FIRST : words;
+    return condition == AVM_COND_STEP || address < words ? at + 1 : address;
 }
 
 void tell_check(avm_answer answer, const uint64_t *program, size_t words, char room[WORDS_ROOM])
@@ -91,8 +82,8 @@ void tell_check(avm_answer answer, const uint64_t *program, size_t words, char r
         tell(room, answer.number, "its words are 0 to %zu, and word %zu can lead to word %zu; change COND or ADDR there, or add what is "
              "missing", words - 1, at, outside(at, program[at], words));
     else
-        tell(room, answer.number, "it goes in a circle, and after exactly 64 microcycles it can stand on word %zu; make every way from "
-             "there lead to word 0", at);
+        tell(room, answer.number, "it goes in a circle, and after exactly %d microcycles it can stand on word %zu; make every way from "
+             "there lead to word 0", AVM_WALK_MOST, at);
 }
 
 /* A line of an image, without its LF. */

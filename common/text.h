@@ -1,6 +1,6 @@
 /* Plain text files: lines of words. A # starts a comment, blanks and tabs part the words, LF or CR LF ends a line. */
-#ifndef GRADER_TEXT_H
-#define GRADER_TEXT_H
+#ifndef COMMON_TEXT_H
+#define COMMON_TEXT_H
 
 #include <stdbool.h>
 #include <stddef.h>
