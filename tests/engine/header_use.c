@@ -44,6 +44,12 @@ static int board_fits(void)
            offsetof(avm_board, mbr) == 144 && offsetof(avm_board, mpc) == 148 && offsetof(avm_board, ivec) == 152;
 }
 
+static int bits_fit(void)
+{
+    return AVM_REQUEST_INTERRUPT == 1 && AVM_REQUEST_RESET == 2 && AVM_PSW_Z == 1 && AVM_PSW_C == 2 && AVM_PSW_N == 4 && AVM_PSW_V == 8 &&
+           AVM_PSW_IE == 16 && AVM_PSW_SM == 32 && AVM_PSW_ALL == 63;
+}
+
 enum { FIELDS = 24 };
 
 #define EACH_FIELD(of) \
@@ -131,14 +137,15 @@ static int highest_codes_fit(void)
            !code_is_taken(AVM_MICROWORD_BITS, 1, 1);
 }
 
-/* LD r3 r4 r5 with bit 31 set, which does not count, and ADDI r31 r0 65534. */
+/* LD r3 r4 r5 with bit 31 set, which does not count, and the word that has all other bits. */
 static int instruction_fields_fit(void)
 {
-    const uint32_t ld = 0x98642800, addi = 0x63E0FFFE;
+    const uint32_t one = 0x98642800, other = 0x679BD7FF;
 
-    return AVM_INSTRUCTION_FIELD(ld, OPCODE) == 6 && AVM_INSTRUCTION_FIELD(ld, DEST) == 3 && AVM_INSTRUCTION_FIELD(ld, SRCA) == 4 &&
-           AVM_INSTRUCTION_FIELD(ld, SRCB) == 5 && AVM_INSTRUCTION_FIELD(addi, OPCODE) == 24 && AVM_INSTRUCTION_FIELD(addi, DEST) == 31 &&
-           AVM_INSTRUCTION_FIELD(addi, SRCA) == 0 && AVM_INSTRUCTION_FIELD(addi, IMM) == 65534;
+    return AVM_INSTRUCTION_FIELD(one, OPCODE) == 6 && AVM_INSTRUCTION_FIELD(other, OPCODE) == 25 && AVM_INSTRUCTION_FIELD(one, DEST) == 3 &&
+           AVM_INSTRUCTION_FIELD(other, DEST) == 28 && AVM_INSTRUCTION_FIELD(one, SRCA) == 4 && AVM_INSTRUCTION_FIELD(other, SRCA) == 27 &&
+           AVM_INSTRUCTION_FIELD(one, SRCB) == 5 && AVM_INSTRUCTION_FIELD(other, SRCB) == 26 &&
+           AVM_INSTRUCTION_FIELD(one, IMM) == 0x2800 && AVM_INSTRUCTION_FIELD(other, IMM) == 0xD7FF;
 }
 
 /* From a word with jop the opcode in IR leads on. */
@@ -309,9 +316,10 @@ static int image_fits(void)
 
 int main(void)
 {
-    int names_fit = version_fits() && limits_fit() && numbers_fit() && places_fit() && board_fits() && fields_tile_a_microword() &&
-                    fields_fit() && codes_fit() && highest_codes_fit() && instruction_fields_fit() && jop_fits() &&
-                    longest_walk_fits() && flags_fit();
+    int names_fit = version_fits() && limits_fit() && numbers_fit() && places_fit() && board_fits() && bits_fit() && codes_fit();
+    int fields_all_fit = fields_tile_a_microword() && fields_fit() && highest_codes_fit() && instruction_fields_fit() && jop_fits();
+    int calls_all_fit = calls_fit() && steps_fit() && flags_fit() && board_calls_fit() && published_fits() && check_fits() &&
+                        longest_walk_fits() && image_fits();
 
-    return names_fit && calls_fit() && steps_fit() && board_calls_fit() && published_fits() && check_fits() && image_fits() ? 0 : 1;
+    return names_fit && fields_all_fit && calls_all_fit ? 0 : 1;
 }
