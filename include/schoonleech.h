@@ -110,13 +110,13 @@ typedef struct {
 enum { AVM_PSW, AVM_PC, AVM_IR, AVM_MAR, AVM_MBR, AVM_MPC, AVM_IVEC, AVM_STATE };
 
 /* Bits of the PSW, as masks. */
-#define AVM_PSW_Z 0x01     /* zero              */
-#define AVM_PSW_C 0x02     /* carry             */
-#define AVM_PSW_N 0x04     /* negative          */
-#define AVM_PSW_V 0x08     /* overflow          */
-#define AVM_PSW_IE 0x10    /* interrupt enable  */
-#define AVM_PSW_SM 0x20    /* supervisor mode   */
-#define AVM_PSW_ALL 0x3F   /* all six           */
+#define AVM_PSW_Z 0x01     /* z: zero                 */
+#define AVM_PSW_C 0x02     /* c: carry                */
+#define AVM_PSW_N 0x04     /* n: negative             */
+#define AVM_PSW_V 0x08     /* v: overflow             */
+#define AVM_PSW_IE 0x10    /* ie: interrupts enabled  */
+#define AVM_PSW_SM 0x20    /* sm: supervisor mode     */
+#define AVM_PSW_ALL 0x3F   /* all six                 */
 
 /* Words of the latch block that phase calls hand on, by index; AVM_LATCHES is their number.
 
