@@ -1,4 +1,5 @@
 /* The example display. README.md says how it is used; this file only puts its pieces together. */
+#include "../common/seconds.h"
 #include "panel.h"
 #include "start.h"
 #include "terminal.h"

@@ -84,14 +84,6 @@ struct size terminal_size(void)
     return size;
 }
 
-double seconds_now(void)
-{
-    struct timespec time;
-
-    clock_gettime(CLOCK_MONOTONIC, &time);
-    return (double)time.tv_sec + (double)time.tv_nsec / 1e9;
-}
-
 static int wait_for_input(double seconds)
 {
     double wait = seconds < 0 ? 0 : seconds;

@@ -23,7 +23,4 @@ enum event { KEY, TIME, RESIZED, ENDED };
    terminal that is gone. */
 enum event wait_for_event(double seconds, char *key);
 
-/* Seconds on a clock that only goes on. */
-double seconds_now(void);
-
 #endif
