@@ -28,9 +28,9 @@ refused_for_its_types() { # NAME CRATE FILE OLD NEW [OLD NEW]..
     fi
 }
 
-refused_for_its_types "a run that exchanges its clocks" run_loop src/lib.rt \
+refused_for_its_types "a run that exchanges its clocks" micro_level src/run_loop.rt \
     'microcycles: completed,' 'microcycles: returned,' 'steps: returned,' 'steps: completed,'
-refused_for_its_types "a C call that exchanges them" run_call src/lib.rt \
+refused_for_its_types "a C call that exchanges them" micro_call src/lib.rt \
     'answer_of(end, microcycles, steps)' 'answer_of(end, steps, microcycles)'
 
 echo "$passed passed, $failed failed"

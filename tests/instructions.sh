@@ -1,13 +1,14 @@
 # docs/INSTRUCTIONS.md can't go stale. Each instruction and the interrupt step have one entry, with the opcode, format, transfers, pages and
-# flags of docs/AVM1.md, and a row of the overview that agrees. The laws are theorems of crates/steps/proofs, and each theorem of a file of
-# laws is on the page. The microcycles are those that a run of the published microprogram takes.
+# flags of docs/AVM1.md, and a row of the overview that agrees. The laws are theorems of crates/macro_meaning/proofs, and each theorem of a
+# file of laws is on the page. The microcycles are those that a run of the published microprogram takes.
 #
 # SCHOONLEECH_LIB  an archive to test with instead of the proved one
 . tests/host/counting.bash
 . tests/host/x86_64.bash
 . tests/host/library.bash
 
-page=docs/INSTRUCTIONS.md source=docs/AVM1.md laws=crates/steps/proofs
+page=docs/INSTRUCTIONS.md source=docs/AVM1.md crate=macro_meaning
+laws=crates/$crate/proofs
 names=()
 declare -A opcode format transfers pages flags # what the source has, by name
 declare -A microcycles                         # what the page has, by opcode or entry
@@ -114,24 +115,24 @@ theorems() { # FILE
         $1 == "pub" && $3 == ":" { print $2 }' "$1"
 }
 
-# A file of laws is one that crates/steps/proofs/Lib.antt lists behind its line '-- laws': the prover reads no other.
+# A file of laws is one that crates/macro_meaning/proofs/Lib.antt lists behind its line '-- laws': the prover reads no other.
 check_laws() {
     local cited cite file name listed
-    cited=$(grep -oE '`steps/proofs/[^`]*`' "$page" | tr -d '`' | sort -u)
+    cited=$(grep -oE "\`$crate/proofs/[^\`]*\`" "$page" | tr -d '`' | sort -u)
     listed=$(sed -n '/^-- laws/,$s/^pub mod //p' "$laws/Lib.antt")
     [ -n "$listed" ] || same "files of laws that Lib.antt lists" none some
     for cite in $cited; do
-        file=${cite%%.antt#*} file=${file#steps/proofs/} name=${cite#*#}
+        file=${cite%%.antt#*} file=${file#"$crate"/proofs/} name=${cite#*#}
         same "$cite is listed" "$(grep -cxF -- "$file" <<<"$listed")" 1
         same "$cite is a theorem" "$([ ! -f "$laws/$file.antt" ] || theorems "$laws/$file.antt" | grep -xF -- "$name")" "$name"
     done
     for file in $listed; do
-        [[ $cited == *"steps/proofs/$file.antt#"* ]] || same "laws of $file.antt on the page" none some
+        [[ $cited == *"$crate/proofs/$file.antt#"* ]] || same "laws of $file.antt on the page" none some
         for name in $(theorems "$laws/$file.antt"); do
-            same "$file.antt, $name is on the page" "$(grep -cxF -- "steps/proofs/$file.antt#$name" <<<"$cited")" 1
+            same "$file.antt, $name is on the page" "$(grep -cxF -- "$crate/proofs/$file.antt#$name" <<<"$cited")" 1
         done
     done
-    for cite in $(grep -oE '`steps/specs/[^`]*`' "$page" | tr -d '`' | sort -u); do
+    for cite in $(grep -oE "\`$crate/specs/[^\`]*\`" "$page" | tr -d '`' | sort -u); do
         same "$cite is defined" "$(grep -cE "((abbrev|unfoldable) pub|record|data) ${cite#*#} " "crates/${cite%%#*}")" 1
     done
 }
@@ -146,8 +147,13 @@ check_laws_of_entries() {
         spoken[$file]=" $(grep -v '^ *--' "$laws/$file.antt" | grep -oE '(Does|On|OnRegister) [0-9]+|Operates [0-9]+ [0-9]+' | grep -oE '[0-9]+' | xargs) "
         named[$file]=" $(grep -oE 'entry s request ≡ [0-9]+' "$laws/$file.antt" | grep -oE '[0-9]+' | xargs) "
     done
-    cited=$(awk '/^## / { here = $0 == "## The instructions" } sub(/^### /, "") { name = $0 }
-        here { while (match($0, /steps\/proofs\/[A-Za-z]+/)) { print name, substr($0, RSTART + 13, RLENGTH - 13); $0 = substr($0, RSTART + RLENGTH) } }' "$page")
+    cited=$(awk -v folder="$crate/proofs/" '/^## / { here = $0 == "## The instructions" } sub(/^### /, "") { name = $0 }
+        here {
+            while (match($0, folder "[A-Za-z]+")) {
+                print name, substr($0, RSTART + length(folder), RLENGTH - length(folder))
+                $0 = substr($0, RSTART + RLENGTH)
+            }
+        }' "$page")
     for name in "${names[@]}"; do
         for file in $listed; do
             must=no may=no
