@@ -1,4 +1,5 @@
-// The walks of a microprogram: what the checker answers, and what it knows on its way.
+// The walks of a microprogram: what the checker answers, and what it knows on its way. There is no
+// function here: specs/ says what is meant, proofs/ that what is found is that, and check_walks does it.
 use answers::End;
 use answers::Microcycles;
 

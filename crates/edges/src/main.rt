@@ -1,5 +1,5 @@
 // The scope's examples at the edges, run: a line each with what the code shows, in the order of the
-// table of the crate examples, proved of the definitions; then the lengths of memory. A flag or a
+// table in specs/, proved of the definitions; then the lengths of memory. A flag or a
 // decision is shown as 0 or 1; an ALU output as its value in hexadecimal and then v, n, c, z.
 use alu::AluOutput;
 use alu::Flags;

@@ -1,5 +1,6 @@
 // Intel HEX images: what a line says, how the reading of a text stands, and what the writer answers.
-// The definitions of specs/ speak of these.
+// There is no function here: specs/ says what reading and writing mean, proofs/ what follows from it,
+// and image_records, image_reader and image_writer do it.
 use answers::End;
 
 // The first four bytes of a record.

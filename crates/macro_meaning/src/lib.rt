@@ -1,6 +1,6 @@
 // Instruction steps: the state that a programmer sees, with memory beside it, what an instruction reads
 // and does, and what a run of steps answers. There is no function here: specs/ says what a step means,
-// proofs/ what follows from it; instructions and macro_level do it.
+// proofs/ what follows from it, and macro_level does it.
 use answers::End;
 use answers::Steps;
 use blocks::memory::Store;

@@ -59,8 +59,8 @@ phase-found answer mem registers state latches mir phase =
 abbrev pub uncounted : End → Answer
 uncounted end = answered end (record { count = 0 }) (record { count = 0 })
 
-abbrev pub phase-called : PhaseCalled → PhaseFound
-phase-called called =
+abbrev pub phase-call-found : PhaseCalled → PhaseFound
+phase-call-found called =
     let s = called .answer .state in
     record {
       answer = uncounted (called .answer .end);
@@ -78,6 +78,6 @@ avm-phase program mem registers state latches mir phase request =
     let called = phase-call program mem (phase-state registers state latches mir phase) request in
     cond (eqb number 0)
     (cond (is-done (called .answer .end))
-    (phase-called called)
+    (phase-call-found called)
     (phase-found (uncounted (called .answer .end)) mem registers state latches mir phase))
     (phase-found (refused number) mem registers state latches mir phase)

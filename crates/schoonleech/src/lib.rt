@@ -1,5 +1,6 @@
 // The C calls under the names and with the contracts that include/schoonleech.h tells a C author.
-// Nothing is decided here: each call is a function of a crate below.
+// Nothing is decided here: each call is a function of a crate below. A board is copied out of its
+// place, advanced by value, and stored back whole.
 ghost use mathlib.Core.Path.{_≡_};
 ghost use Prim.Native.Nat.{_%_};
 ghost use Rattle.control_store.specs.ControlStore.{word-at};
