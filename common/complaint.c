@@ -15,6 +15,11 @@ bool complain(struct complaint *complaint, int status, const char *file, size_t 
     return false;
 }
 
+bool misunderstood(struct complaint *complaint, const char *program, const char *what, const char *word)
+{
+    return complain(complaint, BAD_COMMAND, NULL, 0, "%s%.60s; '%s --help' says how it is called", what, word, program);
+}
+
 static void print_complaint(const char *program, const struct complaint *complaint)
 {
     fputs(complaint->file == NULL ? program : complaint->file, stderr);

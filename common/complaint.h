@@ -27,6 +27,9 @@ struct complaint {
 /* Fills in the complaint. It always returns false, so that whoever finds a fault can end with `return complain(..)`. */
 bool complain(struct complaint *complaint, int status, const char *file, size_t line, const char *format, ...);
 
+/* Complains about the command line of the program with that name: what is wrong, and the word that shows it or "". */
+bool misunderstood(struct complaint *complaint, const char *program, const char *what, const char *word);
+
 /* The status that a program with that name ends with: the given one, or OUTPUT_LOST where standard output can't be written. A complaint is
    printed, under the program's name where it is about no file. */
 int end_program(const char *program, int status, struct complaint *complaint);

@@ -10,12 +10,12 @@ const char *meaning(uint64_t number)
 {
     static const char *const meanings[] = {
         "nothing was refused",
-        "the length of memory is not a power of two from 16 to 16384",
+        "the length of memory is not " MEMORY_LENGTH,
         "there are not 32 registers",
         "register 0 does not hold 0",
         "the microprogram has too few or too many words",
         "the microword has a bit or a code that no table names",
-        "MPC stands outside the microprogram",
+        "MPC stands outside the microprogram, or the phase number is above 3",
         "a request byte is out of range",
         "a microcycle would leave the microprogram",
         "the text is too long",

@@ -95,6 +95,16 @@ bool word_is_number(struct word word, uint64_t most, uint64_t *number)
     return without_0x(&word) ? digits_of(word, 16, most, number) : digits_of(word, 10, most, number);
 }
 
+bool word_is_memory_length(struct word word, size_t *m)
+{
+    uint64_t number;
+
+    if (!word_is_number(word, AVM_WORDS_MOST, &number) || number < AVM_WORDS_FEWEST || (number & (number - 1)) != 0)
+        return false;
+    *m = (size_t)number;
+    return true;
+}
+
 bool word_is_hexadecimal(struct word word, uint64_t *number)
 {
     without_0x(&word);

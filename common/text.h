@@ -7,6 +7,7 @@
 #include <stdint.h>
 
 #include "complaint.h"
+#include "schoonleech.h"
 
 enum { TEXT_MOST = 64 * 1024 * 1024 }; /* bytes of a file */
 
@@ -32,6 +33,12 @@ unsigned digit(char character);
 
 /* A decimal number, or a hexadecimal one after 0x, if it is not above the most. */
 bool word_is_number(struct word word, uint64_t most, uint64_t *number);
+
+/* A number of memory words that the library takes, and what it is called where another word stands. */
+#define TEXT_OF(number) #number
+#define IN_TEXT(constant) TEXT_OF(constant)
+#define MEMORY_LENGTH "a power of two from " IN_TEXT(AVM_WORDS_FEWEST) " to " IN_TEXT(AVM_WORDS_MOST)
+bool word_is_memory_length(struct word word, size_t *m);
 
 /* Hexadecimal digits, 1 to 16 of them. */
 bool word_is_hexadecimal(struct word word, uint64_t *number);

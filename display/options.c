@@ -5,11 +5,6 @@
 #include "../common/text.h"
 #include "keys.h"
 
-static bool misunderstood(struct complaint *complaint, const char *words, const char *word)
-{
-    return complain(complaint, BAD_COMMAND, NULL, 0, "%s%.60s; 'display --help' says how it is called", words, word);
-}
-
 static bool bad_value(struct complaint *complaint, const char *option, const char *expected, const char *found)
 {
     char quoted[QUOTED_ROOM] = "nothing";
@@ -29,10 +24,10 @@ static bool is_number(const char *value, uint32_t most, uint32_t *place)
     return true;
 }
 
-static bool read_words(const char *value, uint32_t *m, struct complaint *complaint)
+static bool read_words(const char *value, size_t *m, struct complaint *complaint)
 {
-    return (is_number(value, AVM_WORDS_MOST, m) && *m >= AVM_WORDS_FEWEST && (*m & (*m - 1)) == 0) ||
-           bad_value(complaint, "--words", "a power of two from 16 to 16384", value);
+    return (value != NULL && word_is_memory_length((struct word){value, strlen(value)}, m)) ||
+           bad_value(complaint, "--words", MEMORY_LENGTH, value);
 }
 
 /* Register 0 is taken too: the library then refuses every call, and that can be shown. */
@@ -70,7 +65,7 @@ static bool read_setting(const char *option, const char *value, struct options *
             snprintf(expected, sizeof expected, "a number from 0 to %lu", (unsigned long)numbers[k].most);
             return is_number(value, numbers[k].most, numbers[k].place) || bad_value(complaint, option, expected, value);
         }
-    return misunderstood(complaint, "no such option: ", option);
+    return misunderstood(complaint, "display", "no such option: ", option);
 }
 
 static bool is_switch(const char *option, struct options *options)
@@ -89,10 +84,10 @@ static bool fits(const struct options *options, struct complaint *complaint)
     if (options->help)
         return true;
     if (options->published && options->unchecked)
-        return misunderstood(complaint, "--unchecked is for a microprogram from a file", "");
+        return misunderstood(complaint, "display", "--unchecked is for a microprogram from a file", "");
     if (options->count == (options->published ? 1 : 2))
         return true;
-    return misunderstood(complaint, "expected ", options->published ? "IMAGE" : "MICROPROGRAM IMAGE");
+    return misunderstood(complaint, "display", "expected ", options->published ? "IMAGE" : "MICROPROGRAM IMAGE");
 }
 
 bool read_options(char **words, struct options *options, struct complaint *complaint)
@@ -105,7 +100,7 @@ bool read_options(char **words, struct options *options, struct complaint *compl
 
         if (word[0] != '-') {
             if (options->count == FILES_MOST)
-                return misunderstood(complaint, "one file too many: ", word);
+                return misunderstood(complaint, "display", "one file too many: ", word);
             options->files[options->count++] = word;
         } else if (!is_switch(word, options)) {
             if (!read_setting(word, *words, options, complaint))

@@ -9,7 +9,7 @@ enum { FILES_MOST = 2 };
 
 struct options {
     bool help, published, unchecked, frames;
-    uint32_t m;      /* words of memory */
+    size_t m;        /* words of memory */
     avm_board start;
     size_t count;    /* of files */
     const char *files[FILES_MOST];

@@ -2,15 +2,10 @@
 
 #include <string.h>
 
-static bool misunderstood(struct complaint *complaint, const char *words, const char *word)
-{
-    return complain(complaint, BAD_COMMAND, NULL, 0, "%s%.60s; 'grader --help' says how it is called", words, word);
-}
-
 static bool choose(struct options *options, enum mode mode, const char *word, struct complaint *complaint)
 {
     if (options->mode != MARK)
-        return misunderstood(complaint, "one option too many: ", word);
+        return misunderstood(complaint, "grader", "one option too many: ", word);
     options->mode = mode;
     return true;
 }
@@ -27,7 +22,7 @@ static bool read_option(struct options *options, const char *word, struct compla
         return options->brief = true;
     if (strcmp(word, "--microcycles") == 0)
         return options->microcycles = true;
-    return misunderstood(complaint, "no such option: ", word);
+    return misunderstood(complaint, "grader", "no such option: ", word);
 }
 
 static bool fits(const struct options *options, struct complaint *complaint)
@@ -36,11 +31,11 @@ static bool fits(const struct options *options, struct complaint *complaint)
     static const char *const files[] = {"MICROPROGRAM IMAGE REQUESTS EXPECTED", "MICROPROGRAM IMAGE REQUESTS", "no file", "no file"};
 
     if (options->brief && options->mode != MARK)
-        return misunderstood(complaint, "--brief is for marking alone", "");
+        return misunderstood(complaint, "grader", "--brief is for marking alone", "");
     if (options->microcycles && options->mode > RECORD)
-        return misunderstood(complaint, "--microcycles is for marking and recording alone", "");
+        return misunderstood(complaint, "grader", "--microcycles is for marking and recording alone", "");
     if (options->files != wanted[options->mode])
-        return misunderstood(complaint, "expected ", files[options->mode]);
+        return misunderstood(complaint, "grader", "expected ", files[options->mode]);
     return true;
 }
 
@@ -54,7 +49,7 @@ bool read_options(int argc, char **argv, struct options *options, struct complai
             if (!read_option(options, argv[k], complaint))
                 return false;
         } else if (options->files == FILES) {
-            return misunderstood(complaint, "one file too many: ", argv[k]);
+            return misunderstood(complaint, "grader", "one file too many: ", argv[k]);
         } else {
             options->names[options->files++] = argv[k];
         }

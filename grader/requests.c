@@ -24,14 +24,10 @@ static bool once(struct reading *reading, uint32_t *seen, unsigned bit, const ch
 static bool read_memory_length(struct reading *reading)
 {
     struct word word;
-    uint64_t m;
     bool there = next_word(&reading->cursor, &word);
 
-    if (!there || !word_is_number(word, AVM_WORDS_MOST, &m) || m < AVM_WORDS_FEWEST || (m & (m - 1)) != 0)
-        return unexpected(&reading->cursor, there ? &word : NULL, reading->complaint, "a power of two from %d to %d", AVM_WORDS_FEWEST,
-                          AVM_WORDS_MOST);
-    reading->requests->start.m = (size_t)m;
-    return true;
+    return (there && word_is_memory_length(word, &reading->requests->start.m)) ||
+           unexpected(&reading->cursor, there ? &word : NULL, reading->complaint, MEMORY_LENGTH);
 }
 
 static bool read_register(struct reading *reading)

@@ -5,7 +5,7 @@
 
    A caller lends places: a microprogram, memory, registers, a block of state words, a board, text. A call reads them, changes some of them
    where they stand and returns an avm_answer. It keeps nothing for the next call. avm_published alone is lent nothing and returns a
-   microword. All nine are in one archive, libschoonleech.a, which `rt staticlib schoonleech` writes to target/staticlib.
+   microword. All of them are in one archive, libschoonleech.a, which `rt staticlib schoonleech` writes to target/staticlib.
 
    - A slice is a pointer and a number of elements. A slice of length 0 may come with NULL.
    - A block with a fixed size (state, latches, mir, phase, board) has no length. It may not be NULL.
@@ -26,7 +26,7 @@ extern "C" {
 
    AVM_VERSION_MAJOR  with a change of layout or meaning: a program that was written against the version before may have to change
    AVM_VERSION_MINOR  with something new beside what there was, which keeps its layout and its meaning
-   AVM_VERSION_PATCH  with a change that no program can tell but by its speed, such as of these comments
+   AVM_VERSION_PATCH  with a change that no program can notice except by its speed, such as a changed comment
 
    A part that moves sets those after it to 0. AVM_VERSION is all three in one number that #if can compare, two digits for each of the last
    two: it is 10203 for version 1.2.3. */
@@ -48,8 +48,8 @@ extern "C" {
 #define AVM_WRITTEN(m) ((size_t)11 * (size_t)(m) + (size_t)12)
 
 /* Bits of a request byte. A microcycle takes both of them, one or neither, a step the first or none. */
-#define AVM_REQUEST_INTERRUPT 1
-#define AVM_REQUEST_RESET 2
+#define AVM_REQUEST_INTERRUPT 1u
+#define AVM_REQUEST_RESET 2u
 
 /* Numbers of an answer. Numbers 1 to 7 are tested before anything is done, the lowest first, and the first that applies is the answer:
    all lent places are then as lent. After 8 the completed microcycles of a run stay; see each call. avm_steps and avm_board_instruction
@@ -76,7 +76,7 @@ enum {
     AVM_BAD_ORDER = 15,           /* a data record starts before the end of the one before it; at: the line                 */
     AVM_NO_ROOM = 16,             /* the text to write does not fit; at: the bytes that it needs                            */
     AVM_WALK_LEAVES = 17,         /* a walk can leave the microprogram; at: the lowest word of a walk from which it can     */
-    AVM_WALK_NOT_BACK = 18        /* a walk is not back after AVM_WALK_MOST microcycles; at: the lowest word where one is   */
+    AVM_WALK_NOT_BACK = 18        /* a walk is longer than AVM_WALK_MOST; at: the lowest word on which one then stands      */
 };
 
 /* Two clocks, two types: a count on one can't be taken for a count on the other. */
@@ -110,13 +110,13 @@ typedef struct {
 enum { AVM_PSW, AVM_PC, AVM_IR, AVM_MAR, AVM_MBR, AVM_MPC, AVM_IVEC, AVM_STATE };
 
 /* Bits of the PSW, as masks. */
-#define AVM_PSW_Z 0x01     /* z: zero                 */
-#define AVM_PSW_C 0x02     /* c: carry                */
-#define AVM_PSW_N 0x04     /* n: negative             */
-#define AVM_PSW_V 0x08     /* v: overflow             */
-#define AVM_PSW_IE 0x10    /* ie: interrupts enabled  */
-#define AVM_PSW_SM 0x20    /* sm: supervisor mode     */
-#define AVM_PSW_ALL 0x3F   /* all six                 */
+#define AVM_PSW_Z 0x01u    /* z: zero                 */
+#define AVM_PSW_C 0x02u    /* c: carry                */
+#define AVM_PSW_N 0x04u    /* n: negative             */
+#define AVM_PSW_V 0x08u    /* v: overflow             */
+#define AVM_PSW_IE 0x10u   /* ie: interrupts enabled  */
+#define AVM_PSW_SM 0x20u   /* sm: supervisor mode     */
+#define AVM_PSW_ALL 0x3Fu  /* all six                 */
 
 /* Words of the latch block that phase calls hand on, by index; AVM_LATCHES is their number.
 
@@ -128,7 +128,7 @@ enum { AVM_PSW, AVM_PC, AVM_IR, AVM_MAR, AVM_MBR, AVM_MPC, AVM_IVEC, AVM_STATE }
    The last two hold one bit each: a word other than 0 counts as set, and unless the call is refused they come back as 0 or 1. */
 enum { AVM_ALATCH, AVM_BLATCH, AVM_IREQ, AVM_IACK, AVM_LATCHES };
 
-/* Some bits of a word, as an unsigned: so many (width, below 32) from that one (shift) up. */
+/* The width bits of a word from bit shift up, as an unsigned; width is below 32. */
 #define AVM_BITS(word, shift, width) ((unsigned)((uint64_t)(word) >> (shift)) & ((1u << (width)) - 1u))
 
 /* Where the fields of an instruction word stand (docs/AVM1.md, section 2). Of the six bits of an opcode only the low five count.
@@ -153,7 +153,7 @@ enum { AVM_ALATCH, AVM_BLATCH, AVM_IREQ, AVM_IACK, AVM_LATCHES };
        IACK 12      FTCH 11       RD 10        WR 9         COND 8..6    ADDR 5..0
 
    Each has a shift, which is its lowest bit, and a width; its name has an underscore for a dot here. AVM_FIELD(word, COND) takes a field
-   out of a microword. */
+   out of a microword. To put a code in, widen it first: (uint64_t)AVM_ALU_NOP << AVM_FIELD_ALU_SHIFT. */
 #define AVM_MICROWORD_BITS 40
 #define AVM_FIELD_AMUX_SHIFT 39
 #define AVM_FIELD_AMUX_WIDTH 1

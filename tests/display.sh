@@ -432,7 +432,7 @@ file long.microprogram "$(times 5000 x | sed 's/x/742D800040\\n/g')"
 refused 4 "the microprogram has too few or too many words" "the microcycle" im --unchecked long.microprogram light.hex
 file code.microprogram "742D800040\n762D800040\n"
 refused 5 "word 1: the microword has a bit or a code that no table names" "the microcycle" im --unchecked code.microprogram light.hex
-refused 6 "MPC stands outside the microprogram" "the microcycle" m --mpc 1 one.microprogram light.hex
+refused 6 "MPC stands outside the microprogram, or the phase number is above 3" "the microcycle" m --mpc 1 one.microprogram light.hex
 leaves="--unchecked leaves.microprogram light.hex"
 refused 8 "a microcycle would leave the microprogram" "the microcycle" mm $leaves
 refused 8 "a microcycle would leave the microprogram" "microcycle 1 of these" mf $leaves

@@ -21,10 +21,12 @@ one ".. and its calls and numbers fit in C++" $emulator "$work/use-cpp"
 # codes. No code of grader and display serves here either; tests/grader/garbage.c has the grader's, since it is about the grader.
 names='AVM_(VERSION|WALK_MOST|REQUEST_|PSW_|BITS|INSTRUCTION_|MICROWORD_|FIELD|SHFT_|ALU_|SRCA_|SRCB_|TRGT_|COND_|JOP_)'
 share_no_names() {
-    ! grep -rnE "$names" tests bench --include='*.[ch]' --exclude=header_use.c
+    grep -rnE "$names" tests bench --include='*.[ch]' --exclude=header_use.c
+    [ $? -eq 1 ]
 }
 share_no_code() {
-    ! grep -rnE '#include.*(common|grader|display)/' tests bench --include='*.[ch]' --exclude=garbage.c
+    grep -rnE '#include.*(common|grader|display)/' tests bench --include='*.[ch]' --exclude=garbage.c
+    [ $? -eq 1 ]
 }
 one "tests and measurements decode by themselves" share_no_names
 one "tests and measurements share no code with grader and display" share_no_code

@@ -3,16 +3,17 @@
 #include "../../include/schoonleech.h"
 
 /* The preprocessor can compare the constants that are macros. */
-#if AVM_VERSION != AVM_VERSION_MAJOR * 10000 + AVM_VERSION_MINOR * 100 + AVM_VERSION_PATCH || AVM_VERSION < 10000
+#if AVM_VERSION / 10000 != AVM_VERSION_MAJOR || AVM_VERSION / 100 % 100 != AVM_VERSION_MINOR || AVM_VERSION % 100 != AVM_VERSION_PATCH
 #error the version is not the number of its parts
 #endif
 #if (AVM_REQUEST_INTERRUPT | AVM_REQUEST_RESET) != 3 || AVM_PSW_ALL != 63 || AVM_FIELD_COND_MOST >= 1 << AVM_FIELD_COND_WIDTH
 #error a constant has another value here
 #endif
 
+/* Indices, sizes and offsets below are those of this major version: whoever changes one moves it. */
 static int version_fits(void)
 {
-    return AVM_VERSION_MAJOR == 1 && AVM_VERSION_MINOR == 0 && AVM_VERSION_PATCH == 0 && AVM_VERSION == 10000;
+    return AVM_VERSION_MAJOR == 1;
 }
 
 static int limits_fit(void)

@@ -1,5 +1,5 @@
 # Sets `library`, the archive of the C calls (include/schoonleech.h) that a script links. `prove_library` proves it and writes it where it
-# is not there, or a crate or the kit changed after it was begun: that takes up to half a minute, and several scripts need it.
+# is not there, or a crate or the kit changed after it was begun: several scripts need it, and one proof serves all.
 #
 # SCHOONLEECH_LIB  an archive to use instead of the proved one; rt is then not run
 #
