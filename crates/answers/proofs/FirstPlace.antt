@@ -41,9 +41,9 @@ good-before bad (x ∷ xs) k h = go (bad x) refl k (good-before bad xs) h
     go false e zero rest h = e
     go false e (suc j) rest h = rest j (le-of-suc-le-suc h)
 
-pub found : (bad : ℕ → Bool) (xs : List ℕ) (i : ℕ) → i < length xs → bad (getD xs i 0) ≡ true → i + first-place bad (drop i xs) ≡ i
+pub bad-here : (bad : ℕ → Bool) (xs : List ℕ) (i : ℕ) → i < length xs → bad (getD xs i 0) ≡ true → i + first-place bad (drop i xs) ≡ i
 unfolding first-place
-found bad xs i h e = rw (drop-cons xs i 0 h, e, add-zero)
+bad-here bad xs i h e = rw (drop-cons xs i 0 h, e, add-zero)
 
 pub passed : (bad : ℕ → Bool) (xs : List ℕ) (i : ℕ) → i < length xs → bad (getD xs i 0) ≡ false
     → i + first-place bad (drop i xs) ≡ i + 1 + first-place bad (drop (i + 1) xs)

@@ -10,7 +10,7 @@ use Rattle.micro_meaning.specs.Run as micro
 use Rattle.macro_meaning.specs.declared.MacroState.{MacroState}
 use Rattle.macro_meaning.specs.declared.MacroAnswer.{MacroAnswer}
 use Rattle.macro_meaning.specs.Run as macro
-use Rattle.board_meaning.specs.Board.{board-found, seen, shown-on, board-microcycle, board-instruction}
+use Rattle.board_meaning.specs.Board.{board-found, macro-seen, shown-on, board-microcycle, board-instruction}
 
 pub microcycle-done : (board : MicroState) (program mem : List ℕ) (request : ℕ)
     → {answer : MicroAnswer} {after : List ℕ} {shown : Answer}
@@ -22,7 +22,7 @@ microcycle-done board program mem request a m o = rw (o, a, m)
 
 pub instruction-done : (board : MicroState) (mem : List ℕ) (request : ℕ)
     → {lent : MacroState} {answer : MacroAnswer} {after : List ℕ} {board′ : MicroState} {shown : Answer}
-    → lent ≡ seen board → answer ≡ macro.run mem lent (request ∷ []) .answer → after ≡ macro.run mem lent (request ∷ []) .memory
+    → lent ≡ macro-seen board → answer ≡ macro.run mem lent (request ∷ []) .answer → after ≡ macro.run mem lent (request ∷ []) .memory
     → board′ ≡ shown-on board (answer .state) → shown ≡ answered (answer .end) (record { count = 0 }) (answer .steps)
     → board-found shown board′ after ≡ board-instruction board mem request
 unfolding board-instruction

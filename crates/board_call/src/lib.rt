@@ -2,7 +2,7 @@
 // The crate schoonleech exports both over a board that is lent and advanced where it stands. Every
 // function is total; the crate board_meaning says what each answers.
 ghost use mathlib.Core.Path.{_≡_};
-ghost use Rattle.board_meaning.specs.Board.{moved-found, seen, shown-on, board-microcycle, board-instruction};
+ghost use Rattle.board_meaning.specs.Board.{moved-found, macro-seen, shown-on, board-microcycle, board-instruction};
 use answers::Microcycles;
 use board_meaning::Moved;
 use calls::answer_of;
@@ -11,7 +11,7 @@ use micro_meaning::MicroState;
 
 // What the macro level sees of a board.
 fn macro_state(board: MicroState) -> MacroState
-    ensures { λ r. ⌜ r ≡ seen board ⌝ }
+    ensures { λ r. ⌜ r ≡ macro-seen board ⌝ }
 {
     let registers = board.registers;
     MacroState {

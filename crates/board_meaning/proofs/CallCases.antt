@@ -15,7 +15,7 @@ use Rattle.micro_meaning.specs.Machine.{micro-unpacked, micro-packed}
 use Rattle.micro_meaning.specs.Run as micro
 use Rattle.macro_meaning.specs.Machine as machine
 use Rattle.macro_meaning.specs.Run as macro
-use Rattle.board_meaning.specs.Board.{BoardFound, board-found, seen, microcycle-found, instruction-found, board-microcycle, board-instruction}
+use Rattle.board_meaning.specs.Board.{BoardFound, board-found, macro-seen, microcycle-found, instruction-found, board-microcycle, board-instruction}
 
 -- an end with so many microcycles and steps, on this board and memory
 abbrev pub ended : End → ℕ → ℕ → MicroState → List ℕ → BoardFound
@@ -50,7 +50,7 @@ module _ (board : MicroState) (program mem : List ℕ) (request : ℕ) where
 
 module _ (board : MicroState) (mem : List ℕ) (request : ℕ) where
   abbrev pub macro-tested : End
-  macro-tested = macro.macro-test (length mem) (seen board) (request ∷ [])
+  macro-tested = macro.macro-test (length mem) (macro-seen board) (request ∷ [])
 
   pub instruction-cases : (P : BoardFound → Type 0) → P (refused-with macro-tested board mem) → Done-anyhow P
       → P (board-instruction board mem request)
@@ -58,7 +58,7 @@ module _ (board : MicroState) (mem : List ℕ) (request : ℕ) where
   instruction-cases P refused done = by-test (is-done macro-tested)
     where
       by-test : (b : Bool)
-          → P (instruction-found board (cond b (macro.macro-done 1 (macro.steps mem (machine.macro-unpacked (seen board)) (request ∷ [])))
-          (macro.macro-refused macro-tested (seen board) mem)))
+          → P (instruction-found board (cond b (macro.macro-done 1 (macro.steps mem (machine.macro-unpacked (macro-seen board)) (request ∷ [])))
+          (macro.macro-refused macro-tested (macro-seen board) mem)))
       by-test true = done 0 1 _ _
       by-test false = refused

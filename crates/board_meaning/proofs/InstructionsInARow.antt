@@ -22,8 +22,8 @@ use Rattle.micro_meaning.specs.declared.MicroState.{MicroState}
 use Rattle.macro_meaning.specs.declared.MacroMachine.{MacroMachine}
 use Rattle.macro_meaning.specs.Machine.{macro-unpacked, macro-packed}
 use Rattle.macro_meaning.specs.Step.{Macro, step}
-use Rattle.macro_meaning.specs.Run.{most-request, macro-test, up, steps, macro-done, macro-refused, run}
-use Rattle.board_meaning.specs.Board.{BoardFound, seen, shown-on, instruction-found, board-instruction}
+use Rattle.macro_meaning.specs.Run.{most-step-request, macro-test, up, steps, macro-done, macro-refused, run}
+use Rattle.board_meaning.specs.Board.{BoardFound, macro-seen, shown-on, instruction-found, board-instruction}
 
 -- what a display shows
 pub record Shown : Type 0 where
@@ -51,17 +51,17 @@ shown-by call = record { board = call .board; memory = call .memory; steps = cal
 
 module _ (board : MicroState) (mem : List ℕ) where
   abbrev ran : List ℕ → BoardFound
-  ran requests = instruction-found board (macro-done (length requests) (steps mem (macro-unpacked (seen board)) requests))
+  ran requests = instruction-found board (macro-done (length requests) (steps mem (macro-unpacked (macro-seen board)) requests))
 
   -- a run by the outcome of its tests
   abbrev by-tests : Bool → List ℕ → BoardFound
   by-tests fine requests =
       instruction-found board
-      (cond fine (macro-done (length requests) (steps mem (macro-unpacked (seen board)) requests))
-      (macro-refused (macro-test (length mem) (seen board) requests) (seen board) mem))
+      (cond fine (macro-done (length requests) (steps mem (macro-unpacked (macro-seen board)) requests))
+      (macro-refused (macro-test (length mem) (macro-seen board) requests) (macro-seen board) mem))
 
   abbrev fine : List ℕ → Bool
-  fine requests = is-done (macro-test (length mem) (seen board) requests)
+  fine requests = is-done (macro-test (length mem) (macro-seen board) requests)
 
   tests-passed : (request : ℕ) → eqb (board-instruction board mem request .answer .number) 0 ≡ true → fine (request ∷ []) ≡ true
   unfolding board-instruction run
@@ -87,16 +87,16 @@ module _ (board : MicroState) (mem : List ℕ) where
     where
       bytes : End
       bytes =
-          let first-bad = first-place (above most-request) (request ∷ []) in
+          let first-bad = first-place (above most-step-request) (request ∷ []) in
           cond (ltb first-bad 1) (Request first-bad) Done
 
       go : (b : Bool) → is-done lent ≡ b → is-done (cond b bytes lent) ≡ true → is-done lent ≡ true
       go true e d = e
       go false e d = d
 
-  byte-good : (request : ℕ) → fine (request ∷ []) ≡ true → above most-request request ≡ false
+  byte-good : (request : ℕ) → fine (request ∷ []) ≡ true → above most-step-request request ≡ false
   unfolding macro-test first-place
-  byte-good request d = go (above most-request request) (is-done lent) (lent-good request d) d
+  byte-good request d = go (above most-step-request request) (is-done lent) (lent-good request d) d
     where
       place : Bool → ℕ
       place bad = cond bad 0 (suc 0)
@@ -107,22 +107,22 @@ module _ (board : MicroState) (mem : List ℕ) where
       go true false e d = absurd (false≢true e)
 
 all-good : (requests : List ℕ) (board : MicroState) (mem : List ℕ) → all-done board mem requests
-    → first-place (above most-request) requests ≡ length requests
+    → first-place (above most-step-request) requests ≡ length requests
 unfolding all-done first-place
 all-good [] board mem all = refl
 all-good (request ∷ rest) board mem all =
     let call = board-instruction board mem request in
-    go (above most-request request) (byte-good board mem request (tests-passed board mem request (all .0)))
+    go (above most-step-request request) (byte-good board mem request (tests-passed board mem request (all .0)))
     (all-good rest (call .board) (call .memory) (all .1))
   where
-    go : (b : Bool) → b ≡ false → first-place (above most-request) rest ≡ length rest
-        → cond b 0 (suc (first-place (above most-request) rest)) ≡ suc (length rest)
+    go : (b : Bool) → b ≡ false → first-place (above most-step-request) rest ≡ length rest
+        → cond b 0 (suc (first-place (above most-step-request) rest)) ≡ suc (length rest)
     go true e ih = absurd (false≢true (sym e))
     go false e ih = ap suc ih
 
 -- a board's PSW of six bits is given back as it was taken
-given-back : (board : MicroState) → board .psw < 64 → shown-on board (macro-packed (macro-unpacked (seen board))) ≡ board
-given-back board six =
+packed-again : (board : MicroState) → board .psw < 64 → shown-on board (macro-packed (macro-unpacked (macro-seen board))) ≡ board
+packed-again board six =
     ap (λ (psw : ℕ). record {
       registers = board .registers;
       psw = psw;
@@ -134,12 +134,12 @@ given-back board six =
       ivec = board .ivec;
     }) (dropped (board .psw) ∙ mod-eq-of-lt six)
 
-taken-back : (m : MacroMachine) → macro-unpacked (macro-packed m) ≡ m
-taken-back m = ap (λ (psw : Psw). record { registers = m .registers; psw = psw; pc = m .pc; ivec = m .ivec }) (restored (m .psw))
+unpacked-again : (m : MacroMachine) → macro-unpacked (macro-packed m) ≡ m
+unpacked-again m = ap (λ (psw : Psw). record { registers = m .registers; psw = psw; pc = m .pc; ivec = m .ivec }) (restored (m .psw))
 
 -- a step on a board, and what the calls behind it show
 abbrev stepped : MicroState → List ℕ → ℕ → Macro
-stepped board mem request = step mem (macro-unpacked (seen board)) (up request)
+stepped board mem request = step mem (macro-unpacked (macro-seen board)) (up request)
 
 abbrev after : MicroState → MacroMachine → List ℕ → List ℕ → Shown
 after board m mem requests =
@@ -151,16 +151,16 @@ one-and n = omega arith
 
 -- the calls are the steps, one behind the other
 are-steps : (requests : List ℕ) (board : MicroState) (mem : List ℕ) → board .psw < 64 → all-done board mem requests
-    → one-by-one board mem requests ≡ after board (macro-unpacked (seen board)) mem requests
+    → one-by-one board mem requests ≡ after board (macro-unpacked (macro-seen board)) mem requests
 unfolding one-by-one all-done steps
-are-steps [] board mem six all = ap (λ (b : MicroState). record { board = b; memory = mem; steps = 0 }) (sym (given-back board six))
+are-steps [] board mem six all = ap (λ (b : MicroState). record { board = b; memory = mem; steps = 0 }) (sym (packed-again board six))
 are-steps (request ∷ rest) board mem six all =
     subst (λ (call : BoardFound). all-done (call .board) (call .memory) rest
     → record {
       board = one-by-one (call .board) (call .memory) rest .board;
       memory = one-by-one (call .board) (call .memory) rest .memory;
       steps = call .answer .steps .count + one-by-one (call .board) (call .memory) rest .steps;
-    } ≡ after board (macro-unpacked (seen board)) mem (request ∷ rest))
+    } ≡ after board (macro-unpacked (macro-seen board)) mem (request ∷ rest))
     (sym (is-its-step board mem request (all .0)))
     (λ all′. from-there (are-steps rest moved then (six-bits (stepped board mem request .machine .psw)) all′))
     (all .1)
@@ -171,36 +171,36 @@ are-steps (request ∷ rest) board mem six all =
     then : List ℕ
     then = stepped board mem request .memory
 
-    from-there : one-by-one moved then rest ≡ after moved (macro-unpacked (seen moved)) then rest
+    from-there : one-by-one moved then rest ≡ after moved (macro-unpacked (macro-seen moved)) then rest
         → record {
           board = one-by-one moved then rest .board;
           memory = one-by-one moved then rest .memory;
           steps = 1 + one-by-one moved then rest .steps;
-        } ≡ after board (macro-unpacked (seen board)) mem (request ∷ rest)
+        } ≡ after board (macro-unpacked (macro-seen board)) mem (request ∷ rest)
     from-there ih =
         ap (λ (s : Shown). record { board = s .board; memory = s .memory; steps = 1 + s .steps })
-        (ih ∙ ap (λ (m : MacroMachine). after moved m then rest) (taken-back (stepped board mem request .machine)))
+        (ih ∙ ap (λ (m : MacroMachine). after moved m then rest) (unpacked-again (stepped board mem request .machine)))
         ∙ ap (λ (count : ℕ). record {
-          board = shown-on board (macro-packed (steps mem (macro-unpacked (seen board)) (request ∷ rest) .machine));
-          memory = steps mem (macro-unpacked (seen board)) (request ∷ rest) .memory;
+          board = shown-on board (macro-packed (steps mem (macro-unpacked (macro-seen board)) (request ∷ rest) .machine));
+          memory = steps mem (macro-unpacked (macro-seen board)) (request ∷ rest) .memory;
           steps = count;
         }) (one-and (length rest))
 
 -- tests that each call passes alone pass together
 together : (board : MicroState) (mem requests : List ℕ) → is-done (lent board mem) ≡ true
-    → first-place (above most-request) requests ≡ length requests → fine board mem requests ≡ true
+    → first-place (above most-step-request) requests ≡ length requests → fine board mem requests ≡ true
 unfolding macro-test
 together board mem requests l good = rw (l, good, le-ltb (length requests) (length requests) (le-refl (length requests)))
 
 -- .. so the calls are one run. No byte, no change, whether the run is refused or done.
 pub calls-are-a-run : (requests : List ℕ) (board : MicroState) (mem : List ℕ) → board .psw < 64 → all-done board mem requests
-    → one-by-one board mem requests ≡ shown-by (instruction-found board (run mem (seen board) requests))
+    → one-by-one board mem requests ≡ shown-by (instruction-found board (run mem (macro-seen board) requests))
 unfolding run all-done steps
 calls-are-a-run [] board mem six all = are-steps [] board mem six all ∙ by-test (fine board mem [])
   where
-    by-test : (b : Bool) → after board (macro-unpacked (seen board)) mem [] ≡ shown-by (by-tests board mem b [])
+    by-test : (b : Bool) → after board (macro-unpacked (macro-seen board)) mem [] ≡ shown-by (by-tests board mem b [])
     by-test true = refl
-    by-test false = ap (λ (b : MicroState). record { board = b; memory = mem; steps = 0 }) (given-back board six)
+    by-test false = ap (λ (b : MicroState). record { board = b; memory = mem; steps = 0 }) (packed-again board six)
 calls-are-a-run (request ∷ rest) board mem six all =
     are-steps (request ∷ rest) board mem six all
     ∙ ap (λ (b : Bool). shown-by (by-tests board mem b (request ∷ rest)))

@@ -8,7 +8,7 @@ use Rattle.micro_meaning.specs.declared.MicroState.{MicroState}
 use Rattle.macro_meaning.specs.Machine.{macro-unpacked}
 use Rattle.macro_meaning.specs.Step.{step}
 use Rattle.macro_meaning.specs.Run.{steps, macro-done, macro-refused, run}
-use Rattle.board_meaning.specs.Board.{seen, board-instruction}
+use Rattle.board_meaning.specs.Board.{macro-seen, board-instruction}
 use Rattle.board_meaning.proofs.CallCases.{macro-tested}
 
 pub record Kept (board after : MicroState) : Type 0 where
@@ -23,7 +23,7 @@ unfolding board-instruction run steps step
 kept board mem request = record { ir = refl; mar = refl; mbr = refl; mpc = refl; ivec = by-test (is-done (macro-tested board mem request)) }
   where
     by-test : (b : Bool)
-        → cond b (macro-done 1 (steps mem (macro-unpacked (seen board)) (request ∷ []))) (macro-refused (macro-tested board mem request) (seen board) mem)
+        → cond b (macro-done 1 (steps mem (macro-unpacked (macro-seen board)) (request ∷ []))) (macro-refused (macro-tested board mem request) (macro-seen board) mem)
         .answer .state .ivec ≡ board .ivec
     by-test true = refl
     by-test false = refl

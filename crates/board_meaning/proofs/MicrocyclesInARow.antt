@@ -15,7 +15,7 @@ use Rattle.micro_meaning.specs.Machine.{micro-unpacked}
 use Rattle.micro_meaning.specs.Run.{MicroCalled, bad-request, micro-test, run-on, answered, micro-refused, run}
 use Rattle.micro_meaning.proofs.RunKeeps.{call-six-bits}
 use Rattle.micro_meaning.proofs.RunTests.{fine}
-use Rattle.micro_meaning.proofs.RunsInARow.{given-back, in-a-row}
+use Rattle.micro_meaning.proofs.RunsInARow.{packed-again, in-a-row}
 use Rattle.board_meaning.specs.Board.{BoardFound, board-microcycle}
 
 -- what a display shows
@@ -71,7 +71,7 @@ module _ (program : List ℕ) where
           → unmoved board mem
           ≡ shown-by (cond b (answered board (run-on program mem (micro-unpacked board) 0 0 []))
           (micro-refused (micro-test (length mem) program board []) board mem))
-      by-test true = ap (λ (s : MicroState). unmoved s mem) (sym (given-back board six))
+      by-test true = ap (λ (s : MicroState). unmoved s mem) (sym (packed-again board six))
       by-test false = refl
 
   -- a done call's byte is good

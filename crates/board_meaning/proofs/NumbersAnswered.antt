@@ -13,10 +13,10 @@ use Rattle.answers.specs.Ends.{shown, is-done}
 use Rattle.answers.specs.Places.{above, first-place}
 use Rattle.answers.specs.Tests.{lent-test}
 use Rattle.control_store.specs.ControlStore.{legal-store-length, lowest-illegal, store-test}
-use Rattle.phase_meaning.specs.Tests.{machine-test}
+use Rattle.control_store.specs.ControlStore.{machine-test}
 use Rattle.micro_meaning.specs.declared.MicroState.{MicroState}
 use Rattle.micro_meaning.specs.Run.{bad-request, micro-test}
-use Rattle.macro_meaning.specs.Run.{most-request, macro-test}
+use Rattle.macro_meaning.specs.Run.{most-step-request, macro-test}
 use Rattle.board_meaning.specs.Board.{BoardFound, board-microcycle, board-instruction}
 use Rattle.board_meaning.proofs.CallCases.{micro-tested, macro-tested, microcycle-cases, instruction-cases}
 
@@ -77,7 +77,7 @@ module _ (board : MicroState) (mem : List ℕ) (request : ℕ) where
   unfolding macro-test lent-test
   macro-refusal =
       by-macro-tests (legal-length (length mem)) (eqb (register (board .registers) 0) 0)
-      (ltb (first-place (above most-request) (request ∷ [])) 1) (first-place (above most-request) (request ∷ []))
+      (ltb (first-place (above most-step-request) (request ∷ [])) 1) (first-place (above most-step-request) (request ∷ []))
 
   pub instruction-answers : AnswersAmong instruction-numbers (board-instruction board mem request)
   instruction-answers = instruction-cases board mem request (AnswersAmong instruction-numbers) macro-refusal (λ _ _ _ _. refl)

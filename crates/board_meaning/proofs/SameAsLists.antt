@@ -7,7 +7,7 @@ use mathlib.Core.List.{List, [], _∷_}
 use lib.ListN.{length}
 use Rattle.words.specs.Lengths.{legal-length}
 use Rattle.answers.specs.Tests.{lent-test}
-use Rattle.phase_meaning.specs.Tests.{machine-test}
+use Rattle.control_store.specs.ControlStore.{machine-test}
 use Rattle.calls.specs.Lending as lists
 use Rattle.micro_meaning.specs.declared.MicroState.{MicroState}
 use Rattle.micro_meaning.specs.Run as micro

@@ -38,8 +38,8 @@ unfoldable pub board-microcycle : MicroState → List ℕ → List ℕ → ℕ �
 board-microcycle board program mem request = microcycle-found (micro.run program mem board (request ∷ []))
 
 -- what the macro level sees of a board
-abbrev pub seen : MicroState → MacroState
-seen board = record { registers = board .registers; psw = board .psw; pc = board .pc; ivec = board .ivec }
+abbrev pub macro-seen : MicroState → MacroState
+macro-seen board = record { registers = board .registers; psw = board .psw; pc = board .pc; ivec = board .ivec }
 
 -- .. and back: IR, MAR, MBR and MPC are kept, whatever they are
 abbrev pub shown-on : MicroState → MacroState → MicroState
@@ -66,4 +66,4 @@ instruction-found board called =
 
 -- one instruction: a step over one request byte
 unfoldable pub board-instruction : MicroState → List ℕ → ℕ → BoardFound
-board-instruction board mem request = instruction-found board (macro.run mem (seen board) (request ∷ []))
+board-instruction board mem request = instruction-found board (macro.run mem (macro-seen board) (request ∷ []))

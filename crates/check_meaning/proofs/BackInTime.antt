@@ -65,9 +65,9 @@ module _ (program : List ℕ) {n : ℕ} (accepted : Accepted program n) where
     here : PossibleNext program (s .mpc) (next-address program s request)
     here = possible program s request (inside program (accepted .none-leaves) some u)
 
-    not-left : leaves program s request ≡ false
+    stays : leaves program s request ≡ false
     unfolding leaves
-    not-left = lt-leb (length program) (next-address program s request) (stays-inside program (accepted .none-leaves) some u here)
+    stays = lt-leb (length program) (next-address program s request) (stays-inside program (accepted .none-leaves) some u here)
 
     -- back at fetch, which ends a walk of at most n microcycles; or the walk goes on
     BackOrOn : Type 0
@@ -96,7 +96,7 @@ module _ (program : List ℕ) {n : ℕ} (accepted : Accepted program n) where
       → run-on program mem s done returns (request ∷ rest)
       ≡ run-on program (applied (micro-store program s) mem) (microcycle program mem s request) (done + 1)
       (returns + num (at-fetch (microcycle program mem s request))) rest
-  one-on mem s done returns request rest u = goes-on program mem s done returns request rest (not-left mem s request u)
+  one-on mem s done returns request rest u = goes-on program mem s done returns request rest (stays mem s request u)
 
   still-under-way : (mem : List ℕ) (s : MicroMachine) (request : ℕ) {k : ℕ} → UnderWay program k (s .mpc)
       → (j : ℕ) × UnderWay program j (microcycle program mem s request .mpc)

@@ -19,8 +19,8 @@ use Rattle.check_meaning.proofs.Sets.{has, has-union, has-alone, has-op
 
 module _ (a w : ℕ) where
   -- MPC_UNIT's choice, by its five tests of the code, then by what the two conditional jumps ask for
-  abbrev given : Bool → Bool → Bool → Bool → Bool → Bool → Bool → ℕ → ℕ
-  given s j o i m t v opcode =
+  abbrev next-by : Bool → Bool → Bool → Bool → Bool → Bool → Bool → ℕ → ℕ
+  next-by s j o i m t v opcode =
       cond s (add-bt6 a 1)
       (cond j (fields w .addr)
       (cond o (add-bt6 opcode 4)
@@ -37,7 +37,7 @@ module _ (a w : ℕ) where
       by-code (eqb code step) (eqb code jmp) (eqb code jop) (eqb-true code jop) (eqb code jint) (eqb code jsm) (ireq && ie) sm
     where
       by-code : (s j o : Bool) → (o ≡ true → fields w .cond ≡ jop) → (i m t v : Bool)
-          → ExtremeOrOpcode opcode (given s j o i m t v opcode) (given s j o i m false false 0) (given s j o i m true true 31)
+          → ExtremeOrOpcode opcode (next-by s j o i m t v opcode) (next-by s j o i m false false 0) (next-by s j o i m true true 31)
       by-code true j o f i m t v = inl refl
       by-code false true o f i m t v = inl refl
       by-code false false true f i m t v = inr (inr (f refl, refl))

@@ -7,7 +7,9 @@ use lib.Dec.{ltb, leb}
 use lib.ListN.{length, getD}
 use Rattle.answers.specs.declared.End.{End}
 use Rattle.answers.specs.declared.End.the-variants.{Done, ProgramLength, Microword}
+use Rattle.answers.specs.Ends.{is-done}
 use Rattle.answers.specs.Places.{first-place}
+use Rattle.answers.specs.Tests.{lent-test}
 use Rattle.control_store.specs.Codes.{legal-microword}
 use Rattle.control_store.specs.Sequencer.{fetch-address}
 
@@ -33,3 +35,9 @@ store-test program =
     cond (legal-store-length (length program))
     (cond (ltb (lowest-illegal program) (length program)) (Microword (lowest-illegal program)) Done)
     ProgramLength
+
+-- 1, 3, 4, 5: memory's length, register 0, the microprogram, which every call that runs microwords tests first
+unfoldable pub machine-test : ℕ → ℕ → List ℕ → End
+machine-test words register-0 program =
+    let lent = lent-test words register-0 in
+    cond (is-done lent) (store-test program) lent

@@ -3,7 +3,7 @@
 // says what each answers.
 ghost use mathlib.Core.Path.{_≡_};
 ghost use Rattle.answers.specs.Places.{first-place};
-ghost use Rattle.control_store.specs.ControlStore.{word-at, illegal, store-test};
+ghost use Rattle.control_store.specs.ControlStore.{word-at, illegal, store-test, machine-test};
 use crate::microword::legal;
 use answers::End;
 
@@ -49,4 +49,16 @@ pub fn tested(program: &[u64]) -> End
         return End::Microword(word);
     }
     End::Done
+}
+
+// Memory's length, register 0 and the microprogram: 1, 3, 4 and 5, which every call that runs
+// microwords tests first.
+pub fn machine_tested(words: usize, zero: u32, program: &[u64]) -> End
+    ensures { λ r. ⌜ r ≡ machine-test words zero (now (program .entry)) ⌝ }
+{
+    let lent = answers::tests::lent(words, zero);
+    if !answers::done(lent) {
+        return lent;
+    }
+    tested(program)
 }

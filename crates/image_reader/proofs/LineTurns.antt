@@ -10,7 +10,7 @@ use Rattle.image_meaning.specs.declared.Reading.{Reading}
 use Rattle.image_meaning.specs.Digits.{word-of, words-of}
 use Rattle.image_meaning.specs.Lines.{lines-of}
 use Rattle.image_meaning.specs.Reading.{next, finish, read-lines, with-line}
-use Rattle.image_records.specs.Found.{line-length}
+use Rattle.image_records.specs.Totals.{line-length}
 use Rattle.image_records.proofs.FirstLine.{line-and-rest}
 
 -- ---- lines

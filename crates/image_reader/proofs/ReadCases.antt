@@ -13,20 +13,20 @@ use Rattle.answers.specs.Ends.{is-done}
 use Rattle.image_meaning.specs.Reading.{most-text, judged, loaded, read-answer, memory-after}
 
 module _ (memory text : List ℕ) where
-  abbrev pub Found : End → List ℕ → Type 0
-  Found end after = (end ≡ read-answer memory text) × (after ≡ memory-after memory text)
+  abbrev pub AsMeant : End → List ℕ → Type 0
+  AsMeant end after = (end ≡ read-answer memory text) × (after ≡ memory-after memory text)
 
-  untouched : {end : End} → read-answer memory text ≡ end → is-done end ≡ false → Found end memory
+  untouched : {end : End} → read-answer memory text ≡ end → is-done end ≡ false → AsMeant end memory
   unfolding memory-after
   untouched e h = (sym e, rw (e, h))
 
   module _ {legal : Bool} (l : legal ≡ legal-length (length memory)) where
-    pub length-refused : not legal ≡ true → Found MemoryLength memory
+    pub length-refused : not legal ≡ true → AsMeant MemoryLength memory
     unfolding read-answer
     length-refused h = untouched (rw (← l, turned legal h)) refl
 
     module _ (h : not legal ≡ false) where
-      pub text-refused : most-text < length text → Found TextLength memory
+      pub text-refused : most-text < length text → AsMeant TextLength memory
       unfolding read-answer
       text-refused long = untouched (rw (← l, upright legal h, lt-leb (length text) most-text long)) refl
 
@@ -36,9 +36,9 @@ module _ (memory text : List ℕ) where
         unfolding read-answer
         lines-decide = rw (← l, upright legal h, le-leb (length text) most-text short) (sym e)
 
-        pub line-refused : not fine ≡ true → Found end memory
+        pub line-refused : not fine ≡ true → AsMeant end memory
         line-refused n = untouched lines-decide (sym f ∙ turned fine n)
 
-        pub all-fine : not fine ≡ false → {after : List ℕ} → after ≡ loaded memory text → Found end after
+        pub all-fine : not fine ≡ false → {after : List ℕ} → after ≡ loaded memory text → AsMeant end after
         unfolding memory-after
         all-fine n s = (sym lines-decide, rw (lines-decide, ← f, upright fine n) s)

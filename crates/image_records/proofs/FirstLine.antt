@@ -8,7 +8,7 @@ use lib.Dec.{eqb}
 use lib.ListN.{length, take, drop, length-drop}
 use lib.Seq.{drop-drop}
 use Rattle.image_meaning.specs.Lines.{lf, lines-of, before-first}
-use Rattle.image_records.specs.Found.{line-length}
+use Rattle.image_records.specs.Totals.{line-length}
 
 cut : (t : List ℕ) → 0 < length t → lines-of t ≡ take (line-length t) t ∷ lines-of (drop (line-length t) t)
 cut [] h = absurd (omega arith)

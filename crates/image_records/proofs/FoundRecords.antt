@@ -16,7 +16,7 @@ use Rattle.image_meaning.specs.Digits.{byte-of, bytes-of, all-bytes, sum-of}
 use Rattle.image_meaning.specs.Lines.{is-end}
 use Rattle.image_meaning.specs.Records.{colon, record-of, record-bytes, count-of, heading-of}
 use Rattle.image_meaning.proofs.RecordCases.{no-colon, no-bytes, no-end, a-record}
-use Rattle.image_records.specs.Found.{total-of}
+use Rattle.image_records.specs.Totals.{total-of}
 
 -- ---- a total tells whether all were bytes
 

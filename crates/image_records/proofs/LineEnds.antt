@@ -11,7 +11,7 @@ use lib.ListN.{length, getD, drop, length-drop, drop-of-length-le}
 use lib.Seq.{drop-cons}
 use borrow.Author.Tests.{eq-eqb, ne-eqb}
 use Rattle.image_meaning.specs.Lines.{lf, cr, is-end}
-use Rattle.image_records.specs.Found.{line-length}
+use Rattle.image_records.specs.Totals.{line-length}
 
 -- ---- the LF
 

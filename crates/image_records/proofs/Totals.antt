@@ -9,7 +9,7 @@ use lib.Seq.{drop-drop}
 use borrow.Author.Tests.{lt-ltb, le-ltb}
 use Rattle.image_records.specs.declared.Total.the-variants.{Sum, NoByte}
 use Rattle.image_meaning.specs.Digits.{byte-of, bytes-of, all-bytes, sum-of}
-use Rattle.image_records.specs.Found.{total-of}
+use Rattle.image_records.specs.Totals.{total-of}
 
 module _ (line : List ℕ) (at left : ℕ) (more : 0 < left) {b : ℕ} (e : b ≡ byte-of (drop at line)) where
   first-and-rest : bytes-of left (drop at line) ≡ b ∷ bytes-of (left - 1) (drop (at + 2) line)

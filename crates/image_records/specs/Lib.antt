@@ -1,2 +1,2 @@
 -- How the pieces of a text are found. What they mean is said in the crate image_meaning.
-pub mod Found
+pub mod Totals

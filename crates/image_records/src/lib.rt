@@ -6,7 +6,7 @@ ghost use lib.ListN.{drop};
 ghost use Rattle.image_meaning.specs.Digits.{digit-value, byte-of, bytes-of, word-of};
 ghost use Rattle.image_meaning.specs.Lines.{is-end};
 ghost use Rattle.image_meaning.specs.Records.{record-of, heading-of};
-ghost use Rattle.image_records.specs.Found.{total-of, line-length};
+ghost use Rattle.image_records.specs.Totals.{total-of, line-length};
 use image_meaning::Heading;
 use image_meaning::Line;
 

@@ -13,7 +13,7 @@ use Rattle.answers.specs.Ends.{is-done}
 use Rattle.answers.specs.Places.{above, first-place}
 use Rattle.answers.specs.Tests.{lent-test}
 use Rattle.macro_meaning.specs.declared.MacroState.{MacroState}
-use Rattle.macro_meaning.specs.Run.{most-request, macro-test}
+use Rattle.macro_meaning.specs.Run.{most-step-request, macro-test}
 
 module _ (words : ℕ) (s : MacroState) (requests : List ℕ) {lent : End} {done : Bool}
     (e : lent ≡ lent-test words (register (s .registers) 0)) (d : done ≡ is-done lent) where
@@ -21,7 +21,7 @@ module _ (words : ℕ) (s : MacroState) (requests : List ℕ) {lent : End} {done
   unfolding macro-test
   lent-refused h = rw (← e, ← d, turned done h)
 
-  module _ (h : not done ≡ false) {place : ℕ} (f : place ≡ first-place (above most-request) requests) where
+  module _ (h : not done ≡ false) {place : ℕ} (f : place ≡ first-place (above most-step-request) requests) where
     pub request-refused : place < length requests → macro-test words s requests ≡ Request place
     unfolding macro-test
     request-refused r = rw (← e, ← d, upright done h, ← f, lt-ltb place (length requests) r)

@@ -65,7 +65,7 @@ module _ (s : Macro) (request later : Bool) (legal : Legal s) (supervisor : s .m
   word = mk-psw (s .machine .psw)
 
   -- both, with what the register holds in between
-  taken-back : next (next s request) later
+  both-steps : next (next s request) later
       ≡ record {
         machine = record {
           registers = update-reg (s .machine .psw .sm) own (s .machine .registers) word;
@@ -75,7 +75,7 @@ module _ (s : Macro) (request later : Bool) (legal : Legal s) (supervisor : s .m
         };
         memory = s .memory;
       }
-  taken-back =
+  both-steps =
       after-ppsw (next s request) later puts (ap (λ (t : Macro). t .machine .psw .sm) (after-gpsw s request gets) ∙ supervisor)
       ∙ rw (same, after-gpsw s request gets)
 
@@ -92,7 +92,7 @@ module _ (s : Macro) (request later : Bool) (legal : Legal s) (supervisor : s .m
       }
   gpsw-then-ppsw other =
       let free = supervisor-writes s own supervisor other in
-      taken-back
+      both-steps
       ∙ (λ i. record {
         machine = record {
           registers = written s own word free i;
@@ -110,4 +110,4 @@ module _ (s : Macro) (request later : Bool) (legal : Legal s) (supervisor : s .m
         memory = s .memory;
       }
   unfolding update-reg get-psw bit
-  gpsw-then-ppsw-of-register-0 zero = taken-back ∙ rw (zero, register-0-kept s request, legal .zero)
+  gpsw-then-ppsw-of-register-0 zero = both-steps ∙ rw (zero, register-0-kept s request, legal .zero)

@@ -18,14 +18,14 @@ use Rattle.macro_meaning.specs.Machine.{macro-unpacked, macro-packed}
 use Rattle.macro_meaning.specs.Step.{Macro, step}
 
 -- the largest request byte: there is no reset at this level
-abbrev pub most-request : ℕ
-most-request = 1
+abbrev pub most-step-request : ℕ
+most-step-request = 1
 
 -- 1 and 3 of what is lent, then the first bad request
 unfoldable pub macro-test : ℕ → MacroState → List ℕ → End
 macro-test words s requests =
     let lent = lent-test words (register (s .registers) 0) in
-    let first-bad = first-place (above most-request) requests in
+    let first-bad = first-place (above most-step-request) requests in
     cond (is-done lent) (cond (ltb first-bad (length requests)) (Request first-bad) Done) lent
 
 -- the request line that a byte stands for

@@ -55,7 +55,7 @@ fn tested(words: usize, program: &[u64], s: MicroState, requests: &[u8]) -> End
 {
     let zero = s.registers[0];
     let mpc = s.mpc as usize;
-    let lent = phase_level::tests::machine(words, zero, program);
+    let lent = control_store::machine_tested(words, zero, program);
     if !answers::done(lent) {
         return lent;
     }

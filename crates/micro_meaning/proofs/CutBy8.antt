@@ -18,7 +18,7 @@ use Rattle.answers.specs.Places.{first-place}
 use Rattle.answers.specs.Tests.{lent-test}
 use Rattle.answers.proofs.FirstPlace.{none-in-front}
 use Rattle.control_store.specs.ControlStore.{legal-store-length, lowest-illegal, store-test}
-use Rattle.phase_meaning.specs.Tests.{machine-test}
+use Rattle.control_store.specs.ControlStore.{machine-test}
 use Rattle.micro_meaning.specs.declared.MicroState.{MicroState}
 use Rattle.micro_meaning.specs.Machine.{micro-unpacked, micro-packed}
 use Rattle.micro_meaning.specs.Run.{RanOn, MicroCalled, bad-request, micro-test, run-on, answered, micro-refused, run}

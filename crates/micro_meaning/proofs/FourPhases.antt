@@ -9,7 +9,7 @@ use Rattle.blocks.specs.declared.memory.Store.the-variants.{Nothing}
 use Rattle.phase_meaning.specs.declared.PhaseMachine.{PhaseMachine}
 use Rattle.phase_meaning.specs.Phases.{phase-one, phase-two, phase-three, phase-four, next-mpc, phase-store}
 use Rattle.phase_meaning.specs.Call.{phase-done, stores, leaves as phase-leaves}
-use Rattle.micro_meaning.specs.Machine.{seen}
+use Rattle.micro_meaning.specs.Machine.{micro-seen}
 use Rattle.micro_meaning.specs.Microcycle.{microcycle, next-address, micro-store, leaves}
 
 -- before phase four
@@ -17,7 +17,7 @@ abbrev pub three-phases : List ℕ → PhaseMachine → ℕ → PhaseMachine
 three-phases urom p request = phase-three (phase-two (phase-one urom p request))
 
 module _ (urom mem : List ℕ) (p : PhaseMachine) (request : ℕ) where
-  pub four-phases : seen (phase-four mem (three-phases urom p request)) ≡ microcycle urom mem (seen p) request
+  pub four-phases : micro-seen (phase-four mem (three-phases urom p request)) ≡ microcycle urom mem (micro-seen p) request
   unfolding phase-one phase-two phase-three phase-four next-mpc microcycle next-address
   four-phases = refl
 
@@ -52,19 +52,19 @@ module _ (urom mem : List ℕ) (p : PhaseMachine) (begins : p .phase ≡ 0) (r�
   unfolding phase-done phase-three
   is-four = ap (λ (q : PhaseMachine). phase-done urom mem q r₄) is-three
 
-  pub done-alike : seen fourth ≡ microcycle urom mem (seen p) r₁
-  done-alike = ap seen is-four ∙ four-phases urom mem p r₁
+  pub done-alike : micro-seen fourth ≡ microcycle urom mem (micro-seen p) r₁
+  done-alike = ap micro-seen is-four ∙ four-phases urom mem p r₁
 
   -- the phase numbers go round
   pub begins-again : fourth .phase ≡ 0
   unfolding phase-four
   begins-again = ap (λ (q : PhaseMachine). q .phase) is-four
 
-  pub refused-alike : phase-leaves (length urom) third ≡ leaves urom (seen p) r₁
+  pub refused-alike : phase-leaves (length urom) third ≡ leaves urom (micro-seen p) r₁
   unfolding phase-leaves phase-one phase-two phase-three next-mpc leaves next-address
   refused-alike = ap (phase-leaves (length urom)) is-three
 
-  pub stored-alike : stores third ≡ micro-store urom (seen p)
+  pub stored-alike : stores third ≡ micro-store urom (micro-seen p)
   unfolding stores phase-one phase-two phase-three phase-store micro-store
   stored-alike = ap stores is-three
 

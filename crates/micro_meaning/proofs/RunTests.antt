@@ -14,7 +14,7 @@ use Rattle.answers.specs.declared.End.the-variants.{Done, Outside, Request}
 use Rattle.answers.specs.Ends.{is-done}
 use Rattle.answers.specs.Places.{first-place}
 use Rattle.answers.proofs.FirstPlace.{at-most}
-use Rattle.phase_meaning.specs.Tests.{machine-test}
+use Rattle.control_store.specs.ControlStore.{machine-test}
 use Rattle.micro_meaning.specs.declared.MicroState.{MicroState}
 use Rattle.micro_meaning.specs.Run.{bad-request, micro-test}
 

@@ -16,7 +16,7 @@ use Rattle.status.proofs.PswNumbers.{dropped, restored}
 use Rattle.answers.specs.Ends.{is-done}
 use Rattle.answers.specs.Places.{first-place}
 use Rattle.answers.proofs.FirstPlace.{none-in-join}
-use Rattle.phase_meaning.specs.Tests.{machine-test}
+use Rattle.control_store.specs.ControlStore.{machine-test}
 use Rattle.micro_meaning.specs.declared.MicroState.{MicroState}
 use Rattle.micro_meaning.specs.declared.MicroMachine.{MicroMachine}
 use Rattle.micro_meaning.specs.Machine.{micro-unpacked, micro-packed}
@@ -26,11 +26,11 @@ use Rattle.micro_meaning.proofs.RunJoins.{joined, counted, counts-added
 use Rattle.micro_meaning.proofs.RunTests.{Fine, fine, fine-done}
 
 -- six bits are given back as they were taken
-pub given-back : (s : MicroState) → s .psw < 64 → micro-packed (micro-unpacked s) ≡ s
-given-back s h = ap (λ (psw : ℕ). record { registers = s .registers; psw = psw; pc = s .pc; ir = s .ir; mar = s .mar; mbr = s .mbr; mpc = s .mpc; ivec = s .ivec }) (dropped (s .psw) ∙ mod-eq-of-lt h)
+pub packed-again : (s : MicroState) → s .psw < 64 → micro-packed (micro-unpacked s) ≡ s
+packed-again s h = ap (λ (psw : ℕ). record { registers = s .registers; psw = psw; pc = s .pc; ir = s .ir; mar = s .mar; mbr = s .mbr; mpc = s .mpc; ivec = s .ivec }) (dropped (s .psw) ∙ mod-eq-of-lt h)
 
-pub taken-back : (m : MicroMachine) → micro-unpacked (micro-packed m) ≡ m
-taken-back m = ap (λ (psw : Psw). record { registers = m .registers; psw = psw; pc = m .pc; ir = m .ir; mar = m .mar; mbr = m .mbr; mpc = m .mpc; ivec = m .ivec }) (restored (m .psw))
+pub unpacked-again : (m : MicroMachine) → micro-unpacked (micro-packed m) ≡ m
+unpacked-again m = ap (λ (psw : Psw). record { registers = m .registers; psw = psw; pc = m .pc; ir = m .ir; mar = m .mar; mbr = m .mbr; mpc = m .mpc; ivec = m .ivec }) (restored (m .psw))
 
 -- a call whose tests pass is its run
 pub as-run : (program mem : List ℕ) (s : MicroState) (requests : List ℕ) → Fine (length mem) program s requests
@@ -130,7 +130,7 @@ module _ (program mem : List ℕ) (s : MicroState) (xs ys : List ℕ) (six : s .
   second : run program (first-run .memory) (micro-packed (first-run .ran .machine)) ys ≡ answered (micro-packed (first-run .ran .machine)) second-run
   second =
       as-run program (first-run .memory) (micro-packed (first-run .ran .machine)) ys tests-of-second
-      ∙ ap (λ (m : MicroMachine). answered (micro-packed (first-run .ran .machine)) (run-on program (first-run .memory) m 0 0 ys)) (taken-back (first-run .ran .machine))
+      ∙ ap (λ (m : MicroMachine). answered (micro-packed (first-run .ran .machine)) (run-on program (first-run .memory) m 0 0 ys)) (unpacked-again (first-run .ran .machine))
 
   first : run program mem s xs ≡ done-answer first-run
   first = as-run program mem s xs (d .tests) ∙ done-answered s first-run (d .done)
@@ -141,7 +141,7 @@ module _ (program mem : List ℕ) (s : MicroState) (xs ys : List ℕ) (six : s .
       same-state s (micro-packed (first-run .ran .machine)) (micro-packed (second-run .ran .machine)) (first-run .ran .microcycles .count)
       (second-run .ran .microcycles .count) (is-done (second-run .ran .end))
       (λ none. ap micro-packed (unmoved program ys (first-run .memory) (first-run .ran .machine) 0 0 none))
-      (λ none. ap micro-packed (unmoved program xs mem (micro-unpacked s) 0 0 none) ∙ given-back s six)
+      (λ none. ap micro-packed (unmoved program xs mem (micro-unpacked s) 0 0 none) ∙ packed-again s six)
 
   together : run program mem s (xs ++ ys) ≡ added (done-answer first-run) (answered (micro-packed (first-run .ran .machine)) second-run)
   together =

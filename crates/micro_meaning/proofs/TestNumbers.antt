@@ -14,7 +14,7 @@ use Rattle.answers.specs.Places.{first-place}
 use Rattle.answers.specs.Tests.{lent-test}
 use Rattle.control_store.specs.ControlStore.{store-test}
 use Rattle.control_store.proofs.StoreTest.{at-most-5}
-use Rattle.phase_meaning.specs.Tests.{machine-test}
+use Rattle.control_store.specs.ControlStore.{machine-test}
 use Rattle.micro_meaning.specs.declared.MicroState.{MicroState}
 use Rattle.micro_meaning.specs.Run.{bad-request, micro-test}
 

@@ -6,8 +6,8 @@ use Rattle.micro_meaning.specs.declared.MicroMachine.{MicroMachine}
 use Rattle.micro_meaning.specs.declared.MicroState.{MicroState}
 
 -- what the micro level sees of a phase state
-abbrev pub seen : PhaseMachine → MicroMachine
-seen s =
+abbrev pub micro-seen : PhaseMachine → MicroMachine
+micro-seen s =
     record {
       registers = s .registers;
       psw = s .psw;

@@ -13,7 +13,8 @@ use Rattle.answers.specs.Ends.{is-done}
 use Rattle.answers.specs.Places.{above, first-place}
 use Rattle.control_store.specs.Sequencer.{fetch-address}
 use Rattle.blocks.specs.Memory.{applied}
-use Rattle.phase_meaning.specs.Tests.{machine-test, most-request}
+use Rattle.control_store.specs.ControlStore.{machine-test}
+use Rattle.phase_meaning.specs.Tests.{most-microcycle-request}
 use Rattle.micro_meaning.specs.declared.MicroState.{MicroState}
 use Rattle.micro_meaning.specs.declared.MicroMachine.{MicroMachine}
 use Rattle.micro_meaning.specs.declared.Ran.{Ran}
@@ -23,7 +24,7 @@ use Rattle.micro_meaning.specs.Microcycle.{microcycle, micro-store, leav
 
 -- the scope's 7
 abbrev pub bad-request : ℕ → Bool
-bad-request = above most-request
+bad-request = above most-microcycle-request
 
 -- 1, 3, 4, 5 of the machine, then MPC inside, then the first bad request
 unfoldable pub micro-test : ℕ → List ℕ → MicroState → List ℕ → End

@@ -4,7 +4,6 @@ ghost use Rattle.phase_meaning.specs.Machine.{phase-unpacked, phase-packed};
 ghost use Rattle.phase_meaning.specs.Tests.{phase-test};
 ghost use Rattle.phase_meaning.specs.Call.{phase-done, stores, leaves, phase-call};
 use crate::phases;
-use crate::tests;
 use answers::End;
 use blocks::memory::Store;
 use blocks::memory::apply;
@@ -68,7 +67,7 @@ fn tested(words: usize, program: &[u64], s: PhaseState, request: u8) -> End
     let mir = s.mir;
     let mpc = s.mpc;
     let number = s.phase;
-    let lent = tests::machine(words, zero, program);
+    let lent = control_store::machine_tested(words, zero, program);
     if !answers::done(lent) {
         return lent;
     }

@@ -11,20 +11,10 @@ use Rattle.words.proofs.Cases.{turned, upright}
 use Rattle.answers.specs.declared.End.{End}
 use Rattle.answers.specs.declared.End.the-variants.{Done, Microword, Outside, Request}
 use Rattle.answers.specs.Ends.{is-done}
-use Rattle.answers.specs.Tests.{lent-test}
 use Rattle.control_store.specs.Codes.{legal-microword}
-use Rattle.control_store.specs.ControlStore.{store-test}
+use Rattle.control_store.specs.ControlStore.{machine-test}
 use Rattle.phase_meaning.specs.declared.PhaseState.{PhaseState}
-use Rattle.phase_meaning.specs.Tests.{machine-test, phase-test, last-phase, most-request}
-
-module _ (words register-0 : ℕ) (program : List ℕ) {lent : End} {done : Bool} (e : lent ≡ lent-test words register-0) (d : done ≡ is-done lent) where
-  pub machine-refused : not done ≡ true → machine-test words register-0 program ≡ lent
-  unfolding machine-test
-  machine-refused h = rw (← e, ← d, turned done h)
-
-  pub the-program : not done ≡ false → machine-test words register-0 program ≡ store-test program
-  unfolding machine-test
-  the-program h = rw (← e, ← d, upright done h)
+use Rattle.phase_meaning.specs.Tests.{phase-test, last-phase, most-microcycle-request}
 
 module _ (words : ℕ) (program : List ℕ) (s : PhaseState) (request : ℕ) {lent : End} {done : Bool}
     (e : lent ≡ machine-test words (register (s .registers) 0) program) (d : done ≡ is-done lent) where
@@ -43,10 +33,10 @@ module _ (words : ℕ) (program : List ℕ) (s : PhaseState) (request : ℕ) {le
       outside i = rw (← e, ← d, upright done h, ← l, upright legal m, turned (ltb (s .mpc) (length program) && leb (s .phase) last-phase) i)
 
       module _ (i : not (ltb (s .mpc) (length program) && leb (s .phase) last-phase) ≡ false) where
-        pub request-refused : most-request < request → phase-test words program s request ≡ Request 0
+        pub request-refused : most-microcycle-request < request → phase-test words program s request ≡ Request 0
         unfolding phase-test
-        request-refused r = rw (← e, ← d, upright done h, ← l, upright legal m, upright (ltb (s .mpc) (length program) && leb (s .phase) last-phase) i, lt-leb request most-request r)
+        request-refused r = rw (← e, ← d, upright done h, ← l, upright legal m, upright (ltb (s .mpc) (length program) && leb (s .phase) last-phase) i, lt-leb request most-microcycle-request r)
 
-        pub nothing-refused : request ≤ most-request → phase-test words program s request ≡ Done
+        pub nothing-refused : request ≤ most-microcycle-request → phase-test words program s request ≡ Done
         unfolding phase-test
-        nothing-refused r = rw (← e, ← d, upright done h, ← l, upright legal m, upright (ltb (s .mpc) (length program) && leb (s .phase) last-phase) i, le-leb request most-request r)
+        nothing-refused r = rw (← e, ← d, upright done h, ← l, upright legal m, upright (ltb (s .mpc) (length program) && leb (s .phase) last-phase) i, le-leb request most-microcycle-request r)

@@ -8,20 +8,13 @@ use Rattle.words.specs.Registers.{register}
 use Rattle.answers.specs.declared.End.{End}
 use Rattle.answers.specs.declared.End.the-variants.{Done, Microword, Outside, Request}
 use Rattle.answers.specs.Ends.{is-done}
-use Rattle.answers.specs.Tests.{lent-test}
 use Rattle.control_store.specs.Codes.{legal-microword}
-use Rattle.control_store.specs.ControlStore.{store-test}
+use Rattle.control_store.specs.ControlStore.{machine-test}
 use Rattle.phase_meaning.specs.declared.PhaseState.{PhaseState}
 
--- 1, 3, 4, 5: memory's length, register 0, the microprogram
-unfoldable pub machine-test : ℕ → ℕ → List ℕ → End
-machine-test words register-0 program =
-    let lent = lent-test words register-0 in
-    cond (is-done lent) (store-test program) lent
-
 -- the largest request byte: interrupt and reset
-abbrev pub most-request : ℕ
-most-request = 3
+abbrev pub most-microcycle-request : ℕ
+most-microcycle-request = 3
 
 -- the number of phase four, the last
 abbrev pub last-phase : ℕ
@@ -34,7 +27,7 @@ phase-test words program s request =
     cond (is-done lent)
     (cond (legal-microword (s .mir))
     (cond (ltb (s .mpc) (length program) && leb (s .phase) last-phase)
-    (cond (leb request most-request) Done (Request 0))
+    (cond (leb request most-microcycle-request) Done (Request 0))
     Outside)
     (Microword (length program)))
     lent

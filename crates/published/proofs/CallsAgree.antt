@@ -20,13 +20,13 @@ use Rattle.answers.specs.Tests.{lent-test}
 use Rattle.control_store.specs.Sequencer.{fetch-address}
 use Rattle.blocks.specs.Memory.{applied}
 use Rattle.phase_meaning.specs.Phases.{interrupt}
-use Rattle.phase_meaning.specs.Tests.{machine-test}
+use Rattle.control_store.specs.ControlStore.{machine-test}
 use Rattle.micro_meaning.specs.declared.MicroMachine.{MicroMachine}
 use Rattle.micro_meaning.specs.Microcycle.{microcycle, micro-store}
 use Rattle.micro_meaning.specs.declared.MicroState.{MicroState}
 use Rattle.micro_meaning.specs.Machine.{micro-unpacked, micro-packed}
 use Rattle.micro_meaning.specs.Run.{RanOn, MicroCalled, at-fetch, bad-request, run-on, run}
-use Rattle.phase_meaning.proofs.TestsInOrder.{machine-refused}
+use Rattle.control_store.proofs.MachineTest.{machine-refused}
 use Rattle.micro_meaning.proofs.RunTests.{Fine, lent-refused as micro-lent}
 use Rattle.micro_meaning.proofs.RunCalls.{refused as micro-call}
 use Rattle.macro_meaning.proofs.RunTests.{lent-refused as macro-lent}
@@ -34,9 +34,9 @@ use Rattle.macro_meaning.proofs.RunCalls.{refused as macro-call}
 use Rattle.micro_meaning.proofs.RunsInARow.{as-run}
 use Rattle.macro_meaning.specs.Machine.{macro-packed}
 use Rattle.macro_meaning.specs.Step.{Macro}
-use Rattle.macro_meaning.specs.Run.{MacroCalled, most-request, macro-test, macro-done, run as macro-run}
+use Rattle.macro_meaning.specs.Run.{MacroCalled, most-step-request, macro-test, macro-done, run as macro-run}
 use Rattle.published.specs.Listing.{published}
-use Rattle.published.specs.Clocks.{macro-state, shows, steps-of, heard}
+use Rattle.published.specs.Clocks.{macro-seen, shows, steps-of, heard}
 use Rattle.published.proofs.ReadBack.{passes}
 use Rattle.published.proofs.NeverLeaves.{sixty-four}
 use Rattle.published.proofs.NeverRefused.{never-refused}
@@ -44,7 +44,7 @@ use Rattle.published.proofs.ReturnsAreSteps.{returns-are-steps}
 
 -- what is heard are bytes 0 and 1
 all-lines : (requests mem : List ℕ) (s : MicroMachine)
-    → first-place (above most-request) (heard published mem s requests) ≡ length (heard published mem s requests)
+    → first-place (above most-step-request) (heard published mem s requests) ≡ length (heard published mem s requests)
 unfolding heard first-place
 all-lines [] mem s = refl
 all-lines (request ∷ rest) mem s =
@@ -53,8 +53,8 @@ all-lines (request ∷ rest) mem s =
     later : List ℕ
     later = heard published (applied (micro-store published s) mem) (microcycle published mem s request) rest
 
-    by-place : (b i : Bool) → first-place (above most-request) later ≡ length later
-        → first-place (above most-request) (cond b (num i ∷ later) later) ≡ length (cond b (num i ∷ later) later)
+    by-place : (b i : Bool) → first-place (above most-step-request) later ≡ length later
+        → first-place (above most-step-request) (cond b (num i ∷ later) later) ≡ length (cond b (num i ∷ later) later)
     by-place true true e = ap suc e
     by-place true false e = ap suc e
     by-place false i e = e
@@ -70,7 +70,7 @@ module _ (mem : List ℕ) (s : MicroState) (requests : List ℕ) where
   micro = run published mem s requests
 
   abbrev pub macro : MacroCalled
-  macro = macro-run mem (macro-state s) steps-heard
+  macro = macro-run mem (macro-seen s) steps-heard
 
   -- ---- refused alike
   pub micro-refuses : is-done lent ≡ false → micro .answer .end ≡ lent
@@ -81,12 +81,12 @@ module _ (mem : List ℕ) (s : MicroState) (requests : List ℕ) where
 
   pub macro-refuses : is-done lent ≡ false → macro .answer .end ≡ lent
   macro-refuses h =
-      let test = macro-lent (length mem) (macro-state s) steps-heard refl refl (ap not h) in
-      ap (λ (c : MacroCalled). c .answer .end) (macro-call mem (macro-state s) steps-heard refl refl (ap (λ (e : End). not (is-done e)) test ∙ ap not h)) ∙ test
+      let test = macro-lent (length mem) (macro-seen s) steps-heard refl refl (ap not h) in
+      ap (λ (c : MacroCalled). c .answer .end) (macro-call mem (macro-seen s) steps-heard refl refl (ap (λ (e : End). not (is-done e)) test ∙ ap not h)) ∙ test
 
   -- ---- done alike
   module _ (good : is-done lent ≡ true) where
-    macro-tested : macro-test (length mem) (macro-state s) steps-heard ≡ Done
+    macro-tested : macro-test (length mem) (macro-seen s) steps-heard ≡ Done
     unfolding macro-test
     macro-tested = rw (good, all-lines requests mem (micro-unpacked s), le-ltb (length steps-heard) (length steps-heard) (le-refl (length steps-heard)))
 
@@ -116,7 +116,7 @@ module _ (mem : List ℕ) (s : MicroState) (requests : List ℕ) where
       pub record Agree : Type 0 where
         pub done : macro .answer .end ≡ Done
         pub steps : macro .answer .steps ≡ micro .answer .steps
-        pub state : macro .answer .state ≡ macro-state (micro .answer .state)
+        pub state : macro .answer .state ≡ macro-seen (micro .answer .state)
         pub memory : macro .memory ≡ micro .memory
 
       pub calls-agree : micro .answer .state .mpc ≡ fetch-address → Agree
@@ -131,6 +131,6 @@ module _ (mem : List ℕ) (s : MicroState) (requests : List ℕ) where
             steps = ap (λ (c : MacroCalled). c .answer .steps) macro-is ∙ ap (λ (n : ℕ). record { count = n }) count ∙ sym (ap (λ (c : MicroCalled). c .answer .steps) micro-is);
             state =
                 ap (λ (c : MacroCalled). c .answer .state) macro-is ∙ ap (λ (x : Macro). macro-packed (x .machine)) (sym shown)
-                ∙ sym (ap (λ (c : MicroCalled). macro-state (c .answer .state)) micro-is);
+                ∙ sym (ap (λ (c : MicroCalled). macro-seen (c .answer .state)) micro-is);
             memory = ap (λ (c : MacroCalled). c .memory) macro-is ∙ ap (λ (x : Macro). x .memory) (sym shown) ∙ sym (ap (λ (c : MicroCalled). c .memory) micro-is);
           }

@@ -19,7 +19,7 @@ use Rattle.phase_meaning.specs.declared.PhaseMachine.{PhaseMachine}
 use Rattle.phase_meaning.specs.Phases.{next-mpc}
 use Rattle.phase_meaning.specs.Tests.{last-phase}
 use Rattle.phase_meaning.specs.Call.{leaves}
-use Rattle.micro_meaning.specs.Machine.{seen}
+use Rattle.micro_meaning.specs.Machine.{micro-seen}
 use Rattle.micro_meaning.specs.Microcycle.{microcycle, micro-store}
 use Rattle.micro_meaning.proofs.FourPhases.{first, second, third, fourth, done-alike, stored-alike, begins-again, nothing-stored-earlier}
 use Rattle.micro_meaning.specs.Run.{RanOn, at-fetch, run-on}
@@ -69,53 +69,53 @@ module _ (mem : List ℕ) (p : PhaseMachine) (begins : p .phase ≡ 0) (request 
       let earlier = nothing-stored-earlier published mem p begins request request request request in
       ap (λ (x : Phased). on-by-one (on-by-one x)) (ap (after p₁) (earlier .0)) ∙ ap on-by-one (ap (after p₂) (earlier .1)) ∙ ap (after p₃) (earlier .2)
 
-  four : on-by-one (on-by-one (on-by-one (on-by-one (beside p)))) ≡ after p₄ (micro-store published (seen p))
+  four : on-by-one (on-by-one (on-by-one (on-by-one (beside p)))) ≡ after p₄ (micro-store published (micro-seen p))
   four = ap on-by-one three ∙ ap (after p₄) (stored-alike published mem p begins request request request request)
 
 -- ---- phases are microcycles
 record Alike (x : Phased) (r : RanOn) : Type 0 where
-  machine : seen (x .machine) ≡ r .ran .machine
+  machine : micro-seen (x .machine) ≡ r .ran .machine
   memory : x .memory ≡ r .memory
 
 alike : (requests mem : List ℕ) (p : PhaseMachine) → p .phase ≡ 0 → (done returns : ℕ)
-    → Alike (phases published (record { machine = p; memory = mem }) requests) (run-on published mem (seen p) done returns requests)
+    → Alike (phases published (record { machine = p; memory = mem }) requests) (run-on published mem (micro-seen p) done returns requests)
 unfolding phases run-on
 alike [] mem p begins done returns = record { machine = refl; memory = refl }
 alike (request ∷ rest) mem p begins done returns =
-    let next = microcycle published mem (seen p) request in
+    let next = microcycle published mem (micro-seen p) request in
     let q = fourth published mem p begins request request request request in
-    let mem′ = applied (micro-store published (seen p)) mem in
-    let same : seen q ≡ next = done-alike published mem p begins request request request request in
+    let mem′ = applied (micro-store published (micro-seen p)) mem in
+    let same : micro-seen q ≡ next = done-alike published mem p begins request request request request in
     let there = alike rest mem′ q (begins-again published mem p begins request request request request) (done + 1) (returns + num (at-fetch next)) in
     let phased-on = ap (λ (x : Phased). phases published x rest) (four mem p begins request) in
-    let run-so = ap (λ s. run-on published mem′ s (done + 1) (returns + num (at-fetch next)) rest) same ∙ sym (on mem (seen p) done returns request rest) in
+    let run-so = ap (λ s. run-on published mem′ s (done + 1) (returns + num (at-fetch next)) rest) same ∙ sym (on mem (micro-seen p) done returns request rest) in
     record {
-      machine = ap (λ (x : Phased). seen (x .machine)) phased-on ∙ there .machine ∙ ap (λ (r : RanOn). r .ran .machine) run-so;
+      machine = ap (λ (x : Phased). micro-seen (x .machine)) phased-on ∙ there .machine ∙ ap (λ (r : RanOn). r .ran .machine) run-so;
       memory = ap (λ (x : Phased). x .memory) phased-on ∙ there .memory ∙ ap (λ (r : RanOn). r .memory) run-so;
     }
 
 -- ---- the theorem
-module _ (mem : List ℕ) (p : PhaseMachine) (begins : p .phase ≡ 0) (at-first : at-fetch (seen p) ≡ true) (requests : List ℕ) where
+module _ (mem : List ℕ) (p : PhaseMachine) (begins : p .phase ≡ 0) (at-first : at-fetch (micro-seen p) ≡ true) (requests : List ℕ) where
   abbrev pub ended : Phased
   ended = phases published (record { machine = p; memory = mem }) requests
 
   abbrev pub whole : RanOn
-  whole = run-on published mem (seen p) 0 0 requests
+  whole = run-on published mem (micro-seen p) 0 0 requests
 
   pub record PhasesToSteps : Type 0 where
     pub no-phase-refused : (q : PhaseMachine) → leaves (length published) q ≡ false
-    pub same-machine : seen (ended .machine) ≡ whole .ran .machine
+    pub same-machine : micro-seen (ended .machine) ≡ whole .ran .machine
     pub same-memory : ended .memory ≡ whole .memory
-    pub run : Steps mem (seen p) at-first requests
-    pub steps : at-fetch (seen (ended .machine)) ≡ true
-        → shows (ended .memory) (seen (ended .machine)) ≡ steps-of (shows mem (seen p)) (heard published mem (seen p) requests)
+    pub run : Steps mem (micro-seen p) at-first requests
+    pub steps : at-fetch (micro-seen (ended .machine)) ≡ true
+        → shows (ended .memory) (micro-seen (ended .machine)) ≡ steps-of (shows mem (micro-seen p)) (heard published mem (micro-seen p) requests)
 
   pub phases-make-steps : PhasesToSteps
   phases-make-steps =
       let same = alike requests mem p begins 0 0 in
-      let run = returns-are-steps mem (seen p) at-first requests in
-      let shown : shows (ended .memory) (seen (ended .machine)) ≡ shows (whole .memory) (whole .ran .machine) =
-      ap (λ (m : List ℕ). shows m (seen (ended .machine))) (same .memory) ∙ ap (shows (whole .memory)) (same .machine) in
+      let run = returns-are-steps mem (micro-seen p) at-first requests in
+      let shown : shows (ended .memory) (micro-seen (ended .machine)) ≡ shows (whole .memory) (whole .ran .machine) =
+      ap (λ (m : List ℕ). shows m (micro-seen (ended .machine))) (same .memory) ∙ ap (shows (whole .memory)) (same .machine) in
       record {
         no-phase-refused = no-phase-leaves;
         same-machine = same .machine;

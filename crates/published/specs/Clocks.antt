@@ -24,8 +24,8 @@ abbrev pub macro-machine : MicroMachine → MacroMachine
 macro-machine s = record { registers = s .registers; psw = s .psw; pc = s .pc; ivec = s .ivec }
 
 -- .. of the state as a caller lends it
-abbrev pub macro-state : MicroState → MacroState
-macro-state s = record { registers = s .registers; psw = s .psw; pc = s .pc; ivec = s .ivec }
+abbrev pub macro-seen : MicroState → MacroState
+macro-seen s = record { registers = s .registers; psw = s .psw; pc = s .pc; ivec = s .ivec }
 
 -- .. and of memory beside it
 abbrev pub shows : List ℕ → MicroMachine → Macro

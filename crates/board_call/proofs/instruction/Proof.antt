@@ -8,9 +8,9 @@ returns : tie.Need-returns
 returns c =
     let shown = c .before in
     let ran = shown .before .before .before .before in
-    let seen = ran .before .before in
-    let args = seen .before .before .before .args in
-    instruction-done (args .board) (args .memory .now) (args .request) (seen .macro-state .ensures) (ran .run .ensures .0)
+    let macro-seen = ran .before .before in
+    let args = macro-seen .before .before .before .args in
+    instruction-done (args .board) (args .memory .now) (args .request) (macro-seen .macro-state .ensures) (ran .run .ensures .0)
     (ran .run .ensures .1) (shown .board-after .ensures) (c .answer-of .ensures)
 
 pub instruction-spec : {M : Type 1} → statement M

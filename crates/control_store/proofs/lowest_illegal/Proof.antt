@@ -6,7 +6,7 @@ use mathlib.Core.Path.{_≡_, sym, ap, _∙_}
 use mathlib.Core.Bool.{not}
 use lib.ListN.{length, drop}
 use Rattle.answers.specs.Places.{first-place}
-use Rattle.answers.proofs.FirstPlace.{found, passed, none-left}
+use Rattle.answers.proofs.FirstPlace.{bad-here, passed, none-left}
 use Rattle.control_store.specs.ControlStore.{illegal}
 use Rattle.control_store.proofs.lowest_illegal.Statement.{statement}
 use Rattle.control_store.proofs.lowest_illegal.Tie as tie
@@ -26,7 +26,7 @@ returns c =
     let args = turn .before .before .args in
     sym
     (turn .loop .inv .1
-    ∙ found illegal (args .program .now) (turn .loop .at) (c .before .before .before .loop-test .taken) (ap not (sym (c .before .legal .ensures)) ∙ c .if1 .taken))
+    ∙ bad-here illegal (args .program .now) (turn .loop .at) (c .before .before .before .loop-test .taken) (ap not (sym (c .before .legal .ensures)) ∙ c .if1 .taken))
 
 loop-again : tie.Need-loop-again Inv-loop μ-loop
 loop-again c =

@@ -4,7 +4,7 @@ use Prim.Native.Nat.{_+_, _-_}
 use native.Mathlib.Omega.{arith}
 use mathlib.Core.Path.{_≡_, refl, sym, _∙_}
 use lib.ListN.{length, drop}
-use Rattle.image_records.specs.Found.{line-length}
+use Rattle.image_records.specs.Totals.{line-length}
 use Rattle.image_records.proofs.LineEnds.{found, passed, text-at-its-end}
 use Rattle.image_records.proofs.line_end.Statement.{statement}
 use Rattle.image_records.proofs.line_end.Tie as tie

@@ -5,7 +5,7 @@ use native.Mathlib.Omega.{arith}
 use mathlib.Core.Path.{_≡_, refl, sym, _∙_}
 use lib.ListN.{drop}
 use Rattle.image_meaning.specs.Digits.{bytes-of}
-use Rattle.image_records.specs.Found.{total-of}
+use Rattle.image_records.specs.Totals.{total-of}
 use Rattle.image_records.proofs.Totals.{no-byte, one-added, all-added}
 use Rattle.image_records.proofs.sum_up.Statement.{statement}
 use Rattle.image_records.proofs.sum_up.Tie as tie

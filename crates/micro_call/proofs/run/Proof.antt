@@ -13,16 +13,16 @@ returns c =
 
 returns-2 : tie.Need-returns-2
 returns-2 c =
-    let given = c .before .before .before .before in
-    let ran = given .before .before .before .before .before .before .before .before in
+    let copied-out = c .before .before .before .before in
+    let ran = copied-out .before .before .before .before .before .before .before .before in
     let lent = ran .before .before in
-    let took = lent .before .before in
-    let tested = took .before .before .before in
+    let copied-in = lent .before .before in
+    let tested = copied-in .before .before .before in
     let args = tested .before .before .before .before .before .args in
     run-done (args .program .now) (args .memory .now) (args .registers .now) (args .state .now) (args .requests .now)
-    (tested .test .ensures) (took .before .before .if1 .left)
-    (took .registers-in .ensures) (lent .micro-state .ensures) (ran .run .ensures .0) (ran .run .ensures .1)
-    (given .registers-out .ensures) (c .before .state-words .ensures) (c .answer-of .ensures)
+    (tested .test .ensures) (copied-in .before .before .if1 .left)
+    (copied-in .registers-in .ensures) (lent .micro-state .ensures) (ran .run .ensures .0) (ran .run .ensures .1)
+    (copied-out .registers-out .ensures) (c .before .state-words .ensures) (c .answer-of .ensures)
 
 pub run-spec : {M : Type 1} → statement M
 run-spec =

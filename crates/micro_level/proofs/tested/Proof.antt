@@ -10,14 +10,14 @@ returns c =
     let tested = c .before in
     let lent = tested .before in
     let args = lent .before .before .before .before .args in
-    sym (lent-refused (args .words) (args .program .now) (args .t3) (args .requests .now) (lent .machine .ensures) (tested .done .ensures) (c .if1 .taken))
+    sym (lent-refused (args .words) (args .program .now) (args .t3) (args .requests .now) (lent .machine-tested .ensures) (tested .done .ensures) (c .if1 .taken))
 
 returns-2 : tie.Need-returns-2
 returns-2 c =
     let tested = c .before .before in
     let lent = tested .before in
     let args = lent .before .before .before .before .args in
-    sym (outside (args .words) (args .program .now) (args .t3) (args .requests .now) (lent .machine .ensures) (tested .done .ensures) (c .before .if1 .left) (c .if2 .taken))
+    sym (outside (args .words) (args .program .now) (args .t3) (args .requests .now) (lent .machine-tested .ensures) (tested .done .ensures) (c .before .if1 .left) (c .if2 .taken))
 
 returns-3 : tie.Need-returns-3
 returns-3 c =
@@ -25,7 +25,7 @@ returns-3 c =
     let lent = tested .before in
     let args = lent .before .before .before .before .args in
     sym
-    (request-refused (args .words) (args .program .now) (args .t3) (args .requests .now) (lent .machine .ensures) (tested .done .ensures)
+    (request-refused (args .words) (args .program .now) (args .t3) (args .requests .now) (lent .machine-tested .ensures) (tested .done .ensures)
     (c .before .before .before .if1 .left) (c .before .before .if2 .left) (c .before .first-above .ensures) (c .if3 .taken))
 
 returns-4 : tie.Need-returns-4
@@ -34,7 +34,7 @@ returns-4 c =
     let lent = tested .before in
     let args = lent .before .before .before .before .args in
     sym
-    (nothing-refused (args .words) (args .program .now) (args .t3) (args .requests .now) (lent .machine .ensures) (tested .done .ensures)
+    (nothing-refused (args .words) (args .program .now) (args .t3) (args .requests .now) (lent .machine-tested .ensures) (tested .done .ensures)
     (c .before .before .before .if1 .left) (c .before .before .if2 .left) (c .before .first-above .ensures) (c .if3 .left))
 
 pub tested-spec : {M : Type 1} → statement M

@@ -6,7 +6,7 @@ use native.Mathlib.Omega.{arith}
 use mathlib.Core.Path.{_≡_, sym, _∙_}
 use lib.ListN.{length, drop}
 use Rattle.answers.specs.Places.{above, first-place}
-use Rattle.answers.proofs.FirstPlace.{found, passed, none-left}
+use Rattle.answers.proofs.FirstPlace.{bad-here, passed, none-left}
 use Rattle.answers.proofs.tests.first_above.Statement.{statement}
 use Rattle.answers.proofs.tests.first_above.Tie as tie
 
@@ -25,7 +25,7 @@ returns c =
     let args = turn .before .args in
     sym
     (turn .loop .inv .1
-    ∙ found (above (args .most)) (args .bytes .now) (turn .loop .at) (c .before .before .loop-test .taken) (lt-ltb _ _ (c .if1 .taken)))
+    ∙ bad-here (above (args .most)) (args .bytes .now) (turn .loop .at) (c .before .before .loop-test .taken) (lt-ltb _ _ (c .if1 .taken)))
 
 loop-again : tie.Need-loop-again Inv-loop μ-loop
 loop-again c =

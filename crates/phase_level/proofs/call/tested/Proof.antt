@@ -10,7 +10,7 @@ returns c =
     let tested = c .before in
     let lent = tested .before in
     let args = lent .before .before .before .args in
-    sym (lent-refused (args .words) (args .program .now) (args .t3) (args .request) (lent .machine .ensures) (tested .done .ensures) (c .if1 .taken))
+    sym (lent-refused (args .words) (args .program .now) (args .t3) (args .request) (lent .machine-tested .ensures) (tested .done .ensures) (c .if1 .taken))
 
 returns-2 : tie.Need-returns-2
 returns-2 c =
@@ -18,7 +18,7 @@ returns-2 c =
     let lent = tested .before in
     let args = lent .before .before .before .args in
     sym
-    (mir-refused (args .words) (args .program .now) (args .t3) (args .request) (lent .machine .ensures) (tested .done .ensures)
+    (mir-refused (args .words) (args .program .now) (args .t3) (args .request) (lent .machine-tested .ensures) (tested .done .ensures)
     (c .before .before .if1 .left) (c .before .legal .ensures) (c .if2 .taken))
 
 returns-3 : tie.Need-returns-3
@@ -27,7 +27,7 @@ returns-3 c =
     let lent = tested .before in
     let args = lent .before .before .before .args in
     sym
-    (outside (args .words) (args .program .now) (args .t3) (args .request) (lent .machine .ensures) (tested .done .ensures)
+    (outside (args .words) (args .program .now) (args .t3) (args .request) (lent .machine-tested .ensures) (tested .done .ensures)
     (c .before .before .before .if1 .left) (c .before .before .legal .ensures) (c .before .if2 .left) (c .if3 .taken))
 
 returns-4 : tie.Need-returns-4
@@ -36,7 +36,7 @@ returns-4 c =
     let lent = tested .before in
     let args = lent .before .before .before .args in
     sym
-    (request-refused (args .words) (args .program .now) (args .t3) (args .request) (lent .machine .ensures) (tested .done .ensures)
+    (request-refused (args .words) (args .program .now) (args .t3) (args .request) (lent .machine-tested .ensures) (tested .done .ensures)
     (c .before .before .before .before .if1 .left) (c .before .before .before .legal .ensures) (c .before .before .if2 .left) (c .before .if3 .left) (c .if4 .taken))
 
 returns-5 : tie.Need-returns-5
@@ -45,7 +45,7 @@ returns-5 c =
     let lent = tested .before in
     let args = lent .before .before .before .args in
     sym
-    (nothing-refused (args .words) (args .program .now) (args .t3) (args .request) (lent .machine .ensures) (tested .done .ensures)
+    (nothing-refused (args .words) (args .program .now) (args .t3) (args .request) (lent .machine-tested .ensures) (tested .done .ensures)
     (c .before .before .before .before .if1 .left) (c .before .before .before .legal .ensures) (c .before .before .if2 .left) (c .before .if3 .left) (c .if4 .left))
 
 pub tested-spec : {M : Type 1} → statement M

@@ -1,9 +1,9 @@
 -- The tests are the definition's, in its order.
 use borrow.Author.Needs.{needs}
 use mathlib.Core.Path.{sym, _∙_}
-use Rattle.phase_meaning.proofs.TestsInOrder.{machine-refused, the-program}
-use Rattle.phase_level.proofs.tests.machine.Statement.{statement}
-use Rattle.phase_level.proofs.tests.machine.Tie as tie
+use Rattle.control_store.proofs.MachineTest.{machine-refused, the-program}
+use Rattle.control_store.proofs.machine_tested.Statement.{statement}
+use Rattle.control_store.proofs.machine_tested.Tie as tie
 
 returns : tie.Need-returns
 returns c = let asked = c .before in
@@ -15,8 +15,8 @@ returns-2 c = let asked = c .before .before in
     let args = asked .before .before .before .args in
     c .tested .ensures ∙ sym (the-program (args .words) (args .zero) (args .program .now) (asked .before .lent .ensures) (asked .done .ensures) (c .before .if1 .left))
 
-pub machine-spec : {M : Type 1} → statement M
-machine-spec = tie.close (tie.spec
+pub machine-tested-spec : {M : Type 1} → statement M
+machine-tested-spec = tie.close (tie.spec
     (λ c κs. search needs)
     (λ c κs. search needs)
     returns
