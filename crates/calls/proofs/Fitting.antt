@@ -1,4 +1,4 @@
--- The two tests case by case, and what a call may take for granted behind them: there are 32 registers, all are taken and all come back.
+-- The two tests case by case, and what a call may take for granted behind them: there are 32 registers, and all are copied in and out.
 use Prim.Native.Nat.{ℕ}
 use native.Mathlib.Omega.{arith}
 use mathlib.Core.Path.{_≡_, refl}

@@ -1,5 +1,5 @@
 -- Registers that a C call lends as a list. Only here can their number be wrong, so only these calls answer 2, between 1 and 3. Where it is
--- wrong zeros are taken and nothing is given back; a call that passed the tests takes and gives all 32. Assumes nothing.
+-- wrong zeros are copied in and nothing is copied out; a call that passed the tests copies all 32 both ways. Assumes nothing.
 use Prim.Native.Nat.{ℕ}
 use mathlib.Core.Bool.{cond}
 use mathlib.Core.List.{List}
@@ -25,7 +25,7 @@ registers-in lent = cond (eqb (length lent) register-count) lent (replicate regi
 unfoldable pub registers-out : List ℕ → List ℕ → List ℕ
 registers-out registers lent = cond (eqb (length lent) register-count) registers lent
 
--- what avm_run and avm_steps answer and leave
+-- what avm_run and avm_steps answer, and what is found in every lent place after them
 pub record Found : Type 0 where
   pub answer : Answer
   pub memory : List ℕ

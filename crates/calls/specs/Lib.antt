@@ -1,3 +1,3 @@
--- What a C call answers; what it is lent as a list, and what it leaves.
+-- What a C call answers; registers that it is lent as a list, and what is found after it.
 pub mod Answers
 pub mod Lending

@@ -1,4 +1,4 @@
--- What a microword says. A reader starts with Microword.
+-- What a microword says, where the sequencer goes, and what is tested of a lent microprogram. A reader starts with Microword.
 pub mod Microword
 pub mod Codes
 pub mod Sequencer

@@ -1,5 +1,5 @@
-// The call of instruction steps: what C lends is tested and taken, the steps are done, and all goes
-// back to where it was lent. The crate schoonleech exports it as avm_steps.
+// The call of instruction steps: what C lends is tested and copied in, the steps are done, and all
+// goes back to where it was lent. The crate schoonleech exports it as avm_steps.
 ghost use mathlib.Core.Path.{_≡_};
 ghost use Rattle.calls.specs.Lending.{found};
 ghost use Rattle.macro_call.specs.Steps.{macro-state, macro-words, avm-steps};

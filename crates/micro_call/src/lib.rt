@@ -1,5 +1,5 @@
-// The call of a run: what C lends is tested and taken, the run is done, and all goes back to where it
-// was lent. The crate schoonleech exports it as avm_run.
+// The call of a run: what C lends is tested and copied in, the run is done, and all goes back to
+// where it was lent. The crate schoonleech exports it as avm_run.
 ghost use mathlib.Core.Path.{_≡_};
 ghost use Rattle.calls.specs.Lending.{found};
 ghost use Rattle.micro_call.specs.Runs.{micro-state, state-words, avm-run};

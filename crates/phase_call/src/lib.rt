@@ -1,5 +1,5 @@
-// The call of a phase: what C lends is tested and taken, the phase is done, and all goes back to where
-// it was lent. The crate schoonleech exports it as avm_phase.
+// The call of a phase: what C lends is tested and copied in, the phase is done, and all goes back
+// to where it was lent. The crate schoonleech exports it as avm_phase.
 ghost use mathlib.Core.Path.{_≡_};
 ghost use Rattle.phase_call.specs.Phase.{phase-state, phase-words, latch-words, phase-found, avm-phase};
 use answers::Microcycles;
