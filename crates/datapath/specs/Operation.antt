@@ -11,20 +11,20 @@ use Rattle.control_store.specs.declared.microword.Microword.{Microword}
 abbrev pub a-input : Microword → ℕ → ℕ → ℕ
 a-input m mbr alatch = cond (m .amux) mbr alatch
 
--- with the ALU's answer given
-unfoldable pub shifted : Microword → AluOutput → AluOutput
-shifted m out =
-    let sh = shifter (m .shft) (out .value) in
+-- the shifter and CSRC, with the ALU's answer given
+unfoldable pub shifted : ℕ → Bool → AluOutput → AluOutput
+shifted shft csrc out =
+    let sh = shifter shft (out .value) in
     record {
       value = sh .value;
       flags =
           record {
             v = out .flags .v;
             n = out .flags .n;
-            c = cond (m .csrc) (out .flags .c) (sh .carry);
+            c = cond csrc (out .flags .c) (sh .carry);
             z = out .flags .z;
           };
     }
 
 unfoldable pub operated : Microword → ℕ → ℕ → Bool → AluOutput
-operated m a b carry = shifted m (alu (m .alu) a b carry)
+operated m a b carry = shifted (m .shft) (m .csrc) (alu (m .alu) a b carry)

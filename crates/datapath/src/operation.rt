@@ -1,6 +1,8 @@
 // What a microword computes: the result with its flags, and the PSW after it.
 ghost use mathlib.Core.Path.{_≡_};
-ghost use Rattle.datapath.specs.Operation.{a-input, operated};
+ghost use mathlib.Core.Bool.{cond};
+ghost use Rattle.alu.specs.Alu.{alu};
+ghost use Rattle.datapath.specs.Operation.{shifted};
 ghost use Rattle.datapath.specs.Results.{psw-lines, quiet, new-psw};
 use alu::AluOutput;
 use alu::Flags;
@@ -10,14 +12,21 @@ use status::psw::Psw;
 use status::psw::PswLines;
 
 // The result that goes onto the C bus, and the flags that the PSW may load: v, n and z are the ALU's,
-// c is the ALU's or the shifter's.
-pub fn operate(word: Microword, mbr: u32, alatch: u32, blatch: u32, carry: bool) -> AluOutput
-    ensures { λ r. ⌜ r ≡ operated word (a-input word mbr alatch) blatch carry ⌝ }
+// c is the ALU's or the shifter's. It takes the fields that it reads and no microword, since a call
+// that the compiler keeps would copy all of them.
+pub fn operate(
+    amux: bool,
+    code: u32,
+    shift: u32,
+    csrc: bool,
+    mbr: u32,
+    alatch: u32,
+    blatch: u32,
+    carry: bool,
+) -> AluOutput
+    ensures { λ r. ⌜ r ≡ shifted shift csrc (alu code (cond amux mbr alatch) blatch carry) ⌝ }
 {
-    let a = blocks::choice::choose(word.amux, mbr, alatch);
-    let code = word.alu;
-    let shift = word.shft;
-    let csrc = word.csrc;
+    let a = blocks::choice::choose(amux, mbr, alatch);
     let out = alu::compute(code, a, blatch, carry);
     let value = out.value;
     let flags = out.flags;

@@ -110,7 +110,16 @@ pub fn four(memory: &[u32], s: PhaseMachine) -> PhaseMachine
     let trgt = word.trgt;
     let instruction = decode(s.ir);
     let dest = instruction.dest;
-    let out = operate(word, s.mbr, s.alatch, s.blatch, psw.c);
+    let out = operate(
+        word.amux,
+        word.alu,
+        word.shft,
+        word.csrc,
+        s.mbr,
+        s.alatch,
+        s.blatch,
+        psw.c,
+    );
     let result = out.value;
     let next_mpc = next_address(s);
     let next_system = results::system(memory, word, dest, psw, result, old);

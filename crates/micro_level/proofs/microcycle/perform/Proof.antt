@@ -1,22 +1,24 @@
 -- Each part is what its own call ensures.
 use borrow.Author.Needs.{needs}
+use Rattle.datapath.specs.Operation.{operated}
 use Rattle.micro_meaning.proofs.Performs.{in-all}
 use Rattle.micro_level.proofs.microcycle.perform.Statement.{statement}
 use Rattle.micro_level.proofs.microcycle.perform.Tie as tie
 
 returns : tie.Need-returns
+unfolding operated
 returns c =
-    let operated = c .before .before .before .before in
-    let encoded = operated .before .before .before .before .before in
+    let worked = c .before .before .before .before in
+    let encoded = worked .before .before .before .before .before in
     let args = encoded .before .before .before .before .before .args in
     in-all (args .memory .now) (args .word) (args .core) (args .read) (args .next)
     (encoded .before .before .before .fields .ensures)
     (encoded .before .before .decode .ensures)
     (encoded .to-word .ensures)
-    (operated .before .before .before .before .a .ensures)
-    (operated .before .before .before .b .ensures)
-    (operated .before .choose .ensures)
-    (operated .operate .ensures)
+    (worked .before .before .before .before .a .ensures)
+    (worked .before .before .before .b .ensures)
+    (worked .before .choose .ensures)
+    (worked .operate .ensures)
     (c .before .before .before .system .ensures)
     (c .before .before .written-register .ensures)
     (c .before .store .ensures)

@@ -1,21 +1,22 @@
 -- Each part is what its own call ensures.
 use borrow.Author.Needs.{needs}
+use Rattle.datapath.specs.Operation.{operated}
 use Rattle.phase_meaning.specs.Phases.{phase-four}
 use Rattle.phase_level.proofs.phases.four.Statement.{statement}
 use Rattle.phase_level.proofs.phases.four.Tie as tie
 
 returns : tie.Need-returns
-unfolding phase-four
+unfolding phase-four operated
 returns c =
-    let operated = c .before .before .before .before in
+    let worked = c .before .before .before .before in
     rw (
       c .registers .ensures,
       c .before .psw2 .ensures,
       c .before .before .system .ensures,
       c .before .before .before .next-address .ensures,
-      operated .operate .ensures,
-      operated .before .decode .ensures,
-      operated .before .before .fields .ensures,
+      worked .operate .ensures,
+      worked .before .decode .ensures,
+      worked .before .before .fields .ensures,
     )
 
 pub four-spec : {M : Type 1} → statement M
