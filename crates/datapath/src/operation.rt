@@ -1,6 +1,5 @@
 // What a microword computes: the result with its flags, and the PSW after it.
 ghost use mathlib.Core.Path.{_≡_};
-ghost use mathlib.Core.Bool.{cond};
 ghost use Rattle.alu.specs.Alu.{alu};
 ghost use Rattle.datapath.specs.Operation.{shifted};
 ghost use Rattle.datapath.specs.Results.{psw-lines, quiet, new-psw};
@@ -12,22 +11,12 @@ use status::psw::Psw;
 use status::psw::PswLines;
 
 // The result that goes onto the C bus, and the flags that the PSW may load: v, n and z are the ALU's,
-// c is the ALU's or the shifter's. It takes the fields that it reads and no microword, since a call
-// that the compiler keeps would copy all of them.
-pub fn operate(
-    amux: bool,
-    code: u32,
-    shift: u32,
-    csrc: bool,
-    mbr: u32,
-    alatch: u32,
-    blatch: u32,
-    carry: bool,
-) -> AluOutput
-    ensures { λ r. ⌜ r ≡ shifted shift csrc (alu code (cond amux mbr alatch) blatch carry) ⌝ }
+// c is the ALU's or the shifter's. It takes the codes that it reads and no microword, since a call
+// that the compiler keeps would copy all of it.
+pub fn operate(code: u32, shift: u32, csrc: bool, a: u32, b: u32, carry: bool) -> AluOutput
+    ensures { λ r. ⌜ r ≡ shifted shift csrc (alu code a b carry) ⌝ }
 {
-    let a = blocks::choice::choose(amux, mbr, alatch);
-    let out = alu::compute(code, a, blatch, carry);
+    let out = alu::compute(code, a, b, carry);
     let value = out.value;
     let flags = out.flags;
     let shifted = words::shifter::shift(shift, value);

@@ -47,7 +47,8 @@ pub fn perform(memory: &[u32], word: u64, core: Core, read: Read, next: u32) -> 
     let a = sources::a(m.srca, read.srca, read.dest, read.ssp, number, core.pc);
     let b = sources::b(m.srcb, read.srcb, core.ivec, instruction.imm);
     let mar = choose(m.pmux & m.mar, core.pc, core.mar);
-    let out = operate(m.amux, m.alu, m.shft, m.csrc, core.mbr, a, b, psw.c);
+    let input = choose(m.amux, core.mbr, a);
+    let out = operate(m.alu, m.shft, m.csrc, input, b, psw.c);
     let result = out.value;
     let old = SystemRegisters {
         pc: core.pc,

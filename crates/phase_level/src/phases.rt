@@ -110,16 +110,8 @@ pub fn four(memory: &[u32], s: PhaseMachine) -> PhaseMachine
     let trgt = word.trgt;
     let instruction = decode(s.ir);
     let dest = instruction.dest;
-    let out = operate(
-        word.amux,
-        word.alu,
-        word.shft,
-        word.csrc,
-        s.mbr,
-        s.alatch,
-        s.blatch,
-        psw.c,
-    );
+    let a = choose(word.amux, s.mbr, s.alatch);
+    let out = operate(word.alu, word.shft, word.csrc, a, s.blatch, psw.c);
     let result = out.value;
     let next_mpc = next_address(s);
     let next_system = results::system(memory, word, dest, psw, result, old);

@@ -15,14 +15,16 @@ returns c =
       c .before .before .system .ensures,
       c .before .before .before .next-address .ensures,
       worked .operate .ensures,
-      worked .before .decode .ensures,
-      worked .before .before .fields .ensures,
+      worked .before .choose .ensures,
+      worked .before .before .decode .ensures,
+      worked .before .before .before .fields .ensures,
     )
 
 pub four-spec : {M : Type 1} → statement M
 four-spec =
     tie.close
     (tie.spec
+    (λ c κs. search needs)
     (λ c κs. search needs)
     (λ c κs. search needs)
     (λ c κs. search needs)
