@@ -1,4 +1,6 @@
 // The ALU: eleven functions, each with a value and four flags.
+#![tactic(auto)]
+
 ghost use Rattle.std.specs.Prelude.{◌≡◌};
 ghost use Rattle.alu.specs.Alu.{added, subtracted, plain, alu};
 
@@ -6,7 +8,7 @@ use std::num::{wrapping_add_u32, wrapping_sub_u32};
 use words::predicates::{negative, zero};
 
 // The four status bits: overflow, negative, carry, zero.
-#[derive(Drop)]
+#[derive(Clone, Copy)]
 pub struct Flags {
     pub v: bool,
     pub n: bool,
@@ -14,7 +16,7 @@ pub struct Flags {
     pub z: bool,
 }
 
-#[derive(Drop)]
+#[derive(Clone, Copy)]
 pub struct AluOutput {
     pub value: u32,
     pub flags: Flags,

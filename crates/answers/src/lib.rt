@@ -1,5 +1,7 @@
 // How the engine's calls answer: the counts of the two clocks, the end of a call with the number that
 // the grader shows, and the tests that several levels share.
+#![tactic(auto)]
+
 ghost use Rattle.std.specs.Prelude.{◌≡◌};
 ghost use Rattle.answers.specs.Ends.{is_done, numbered, shown};
 
@@ -7,21 +9,21 @@ pub mod tests;
 
 // A count on the microcycle clock.
 #[repr(C)]
-#[derive(Drop)]
+#[derive(Clone, Copy)]
 pub struct Microcycles {
     pub count: u64,
 }
 
 // A count on the instruction clock.
 #[repr(C)]
-#[derive(Drop)]
+#[derive(Clone, Copy)]
 pub struct Steps {
     pub count: u64,
 }
 
 // How a call ended: done, or refused for the reason named, with the word, place, line or bytes that
 // go with it.
-#[derive(Drop)]
+#[derive(Clone, Copy)]
 pub enum End {
     Done,
     MemoryLength,
@@ -44,7 +46,7 @@ pub enum End {
 }
 
 // A number of the scope's table, and what goes with it.
-#[derive(Drop)]
+#[derive(Clone, Copy)]
 pub struct Numbered {
     pub number: u64,
     pub at: u64,

@@ -3,7 +3,7 @@ ghost use Rattle.std.specs.Prelude.{◌≡◌};
 ghost use Rattle.blocks.specs.Memory.{fetch, applied};
 
 // What a microcycle stores: nothing, or a word at an address.
-#[derive(Drop)]
+#[derive(Clone, Copy)]
 pub enum Store {
     Nothing,
     Word(u32, u32),

@@ -1,6 +1,8 @@
 // The bench board, by value: one microcycle or one instruction step of a board that a display keeps.
 // The crate schoonleech exports both over a board that is lent and advanced where it stands. Every
 // function is total; the crate board_meaning says what each answers.
+#![tactic(auto)]
+
 ghost use Rattle.std.specs.Prelude.{◌≡◌};
 ghost use Rattle.board_meaning.specs.Board.{moved_found, macro_seen, shown_on, board_microcycle, board_instruction};
 

@@ -1,5 +1,7 @@
 // What a C call answers, and the registers that it is lent as a list: the two tests that come before
 // all others, and the way in and out. Every function is total; specs/ says what each answers.
+#![tactic(auto)]
+
 ghost use Rattle.std.specs.Prelude.{◌≡◌, length};
 ghost use Rattle.calls.specs.Answers.{refused, answered};
 ghost use Rattle.calls.specs.Lending.{first_test, registers_in, registers_out};
@@ -8,7 +10,7 @@ use answers::{End, Microcycles, Steps};
 
 // avm_answer of the header.
 #[repr(C)]
-#[derive(Drop)]
+#[derive(Clone, Copy)]
 pub struct Answer {
     pub number: u64,
     pub at: u64,

@@ -1,4 +1,6 @@
 // avm_check: the checker's answer as every C call gives it. The crate schoonleech exports it.
+#![tactic(auto)]
+
 ghost use Rattle.check_call.specs.Checks.{CheckAnswer};
 
 use answers::Steps;

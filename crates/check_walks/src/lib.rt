@@ -1,5 +1,7 @@
 // The control-store checker: whether every walk of a microprogram from fetch is back within 64
 // microcycles and none can leave, and how long the longest is.
+#![tactic(auto)]
+
 ghost use Rattle.std.specs.Prelude.{cond, ◌≡◌};
 ghost use Rattle.std.specs.Int.Count.{count_trailing_zeros};
 ghost use Rattle.check_meaning.specs.Meaning.{refusal, Meant};

@@ -1,6 +1,8 @@
 // The control store: a microword's 24 fields, which words are legal, where the sequencer goes, and a
 // caller's microprogram, the word at an address and the test of all. Every function is total; specs/
 // says what each answers.
+#![tactic(auto)]
+
 ghost use Rattle.std.specs.Prelude.{◌≡◌};
 ghost use Rattle.answers.specs.Places.{first_place};
 ghost use Rattle.control_store.specs.ControlStore.{word_at, illegal, store_test, machine_test};

@@ -4,7 +4,7 @@ ghost use Rattle.control_store.specs.Microword.{fields};
 ghost use Rattle.control_store.specs.Codes.{legal_microword};
 
 // The 24 fields of table 5.12 (p. 119), in its order and by its names.
-#[derive(Drop)]
+#[derive(Clone, Copy)]
 pub struct Microword {
     pub amux: bool,
     pub shft: u32,

@@ -36,7 +36,7 @@ pub fn registers(trgt: u32, sm: bool, dest: u32, registers: [u32; 32], res: u32)
 }
 
 // The system registers that a result can go to.
-#[derive(Drop)]
+#[derive(Clone, Copy)]
 pub struct SystemRegisters {
     pub pc: u32,
     pub ir: u32,

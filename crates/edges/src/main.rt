@@ -1,6 +1,8 @@
 // The scope's examples at the edges, run: a line each with what the code shows, in the order of the
 // table in specs/, proved of the definitions; then the lengths of memory. A flag or a
 // decision is shown as 0 or 1; an ALU output as its value in hexadecimal and then v, n, c, z.
+#![tactic(auto)]
+
 use alu::{AluOutput, Flags};
 use image_meaning::Line;
 use libc::STDOUT_FILENO;

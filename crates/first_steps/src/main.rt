@@ -1,6 +1,8 @@
 // Twelve instruction steps from a small program, an interrupt among them, with the state after each;
 // then lengths of memory that a run takes or refuses. A line has PC, PSW, the registers 1, 8 to 12
 // and 20, and the memory words 12 to 14, all in decimal.
+#![tactic(auto)]
+
 use blocks::memory::load;
 use libc::STDOUT_FILENO;
 use macro_level::run::run;

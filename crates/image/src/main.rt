@@ -1,5 +1,7 @@
 // The image program: 16 zero words, HEX from standard input, and the image of memory on standard
 // output; or one line with the number and the line of the refusal.
+#![tactic(auto)]
+
 ghost use Rattle.std.specs.Prelude.{◌≡◌};
 ghost use Rattle.image.specs.Image.{image_answer, image_room};
 

@@ -1,5 +1,7 @@
 // avm_read and avm_write: the reader's and the writer's answers as every C call gives them. The crate
 // schoonleech exports them.
+#![tactic(auto)]
+
 ghost use Rattle.std.specs.Prelude.{◌≡◌};
 ghost use Rattle.image_meaning.specs.Reading.{memory_after};
 ghost use Rattle.image_meaning.specs.Writing.{room_after};

@@ -1,10 +1,12 @@
 // Where a record of data may stand in memory, and the store of one of its words. No text format is
 // known here. Addresses, counts and ends are in bytes.
+#![tactic(auto)]
+
 ghost use Rattle.std.specs.Prelude.{◌≡◌, set};
 ghost use Rattle.image_placing.specs.Placing.{placing};
 
 // How a record stands: it fits, or it is misplaced (13), or it starts before the end of the last (15).
-#[derive(Drop)]
+#[derive(Clone, Copy)]
 pub enum Placed {
     Fits,
     Misplaced,

@@ -1,5 +1,7 @@
 // The reader of images: every line is tested first, and only then are words stored, so a refused text
 // leaves memory as it was and no copy of memory is needed.
+#![tactic(auto)]
+
 ghost use Rattle.std.specs.Prelude.{◌≡◌, ◌+◌};
 ghost use Rattle.std.proofs.lemmas.List.Edits.{sets};
 ghost use Rattle.image_meaning.specs.Digits.{words_of};

@@ -1,4 +1,6 @@
 // The pieces of a text: a digit, a byte, a word, the end of a line, and what a line says.
+#![tactic(auto)]
+
 ghost use Rattle.std.specs.Prelude.{◌≡◌, ◌+◌, cond, drop};
 ghost use Rattle.image_meaning.specs.Digits.{digit_value, byte_of, bytes_of, word_of};
 ghost use Rattle.image_meaning.specs.Lines.{is_end};
@@ -8,7 +10,7 @@ ghost use Rattle.image_records.specs.Totals.{total_of, line_length};
 use image_meaning::{Heading, Line};
 
 // Bytes summed up modulo 256, or one of them was no byte.
-#[derive(Drop)]
+#[derive(Clone, Copy)]
 pub enum Total {
     Sum(u8),
     NoByte,

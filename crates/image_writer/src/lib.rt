@@ -1,4 +1,6 @@
 // The writer of images: 44 bytes for each four words, then the end record.
+#![tactic(auto)]
+
 ghost use Rattle.std.specs.Prelude.{◌≡◌, ◌+◌, ◌*◌, ◌%◌, ◌<◌, ◌≤◌, [], ◌∷◌, length, get_or, set};
 ghost use Rattle.std.proofs.lemmas.List.Edits.{sets};
 ghost use Rattle.image_meaning.specs.Digits.{digit, hex, sum_of};

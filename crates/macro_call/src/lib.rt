@@ -1,5 +1,7 @@
 // The call of instruction steps: what C lends is tested and copied in, the steps are done, and all
 // goes back to where it was lent. The crate schoonleech exports it as avm_steps.
+#![tactic(auto)]
+
 ghost use Rattle.std.specs.Prelude.{◌≡◌};
 ghost use Rattle.calls.specs.Lending.{found};
 ghost use Rattle.macro_call.specs.Steps.{macro_state, macro_words, avm_steps};

@@ -1,12 +1,14 @@
 // Instruction steps: the state that a programmer sees, with memory beside it, what an instruction reads
 // and does, and what a run of steps answers. There is no function here: specs/ says what a step means,
 // proofs/ what follows from it, and macro_level does it.
+#![tactic(auto)]
+
 use answers::{End, Steps};
 use blocks::memory::Store;
 use status::psw::Psw;
 
 // As a caller lends it: the PSW is a number.
-#[derive(Drop)]
+#[derive(Clone, Copy)]
 pub struct MacroState {
     pub registers: [u32; 32],
     pub psw: u32,
@@ -15,7 +17,7 @@ pub struct MacroState {
 }
 
 // As a step sees it: the PSW is its six bits.
-#[derive(Drop)]
+#[derive(Clone, Copy)]
 pub struct MacroMachine {
     pub registers: [u32; 32],
     pub psw: Psw,
@@ -25,7 +27,7 @@ pub struct MacroMachine {
 
 // What an instruction reads: the three registers that its word names, SSP, its immediate, the number
 // of its destination, PSW, PC and the interrupt vector.
-#[derive(Drop)]
+#[derive(Clone, Copy)]
 pub struct Operands {
     pub a: u32,
     pub b: u32,
@@ -40,7 +42,7 @@ pub struct Operands {
 
 // What it does: one register at most, written under the register rule with `sm`; register 0 stands
 // for none.
-#[derive(Drop)]
+#[derive(Clone, Copy)]
 pub struct Effect {
     pub sm: bool,
     pub register: u32,
@@ -50,7 +52,7 @@ pub struct Effect {
     pub store: Store,
 }
 
-#[derive(Drop)]
+#[derive(Clone, Copy)]
 pub struct MacroAnswer {
     pub end: End,
     pub steps: Steps,

@@ -1,5 +1,7 @@
 // The call of a run: what C lends is tested and copied in, the run is done, and all goes back to
 // where it was lent. The crate schoonleech exports it as avm_run.
+#![tactic(auto)]
+
 ghost use Rattle.std.specs.Prelude.{◌≡◌};
 ghost use Rattle.calls.specs.Lending.{found};
 ghost use Rattle.micro_call.specs.Runs.{micro_state, state_words, avm_run};

@@ -1,5 +1,7 @@
 // The micro level: a run of one microcycle for each request byte. Every function is total; the crate
 // micro_meaning says what each answers.
+#![tactic(auto)]
+
 ghost use Rattle.std.specs.Prelude.{◌≡◌};
 ghost use Rattle.micro_meaning.specs.Machine.{micro_unpacked, micro_packed};
 ghost use Rattle.micro_meaning.specs.Run.{micro_test, answer_of, run};

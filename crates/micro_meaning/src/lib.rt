@@ -1,12 +1,14 @@
 // The micro level: its state, as a microcycle sees it and as a caller lends it, what a microcycle does
 // and what a run answers. There is no function here: specs/ says what a microcycle and a run mean,
 // proofs/ what follows from it, and micro_level does it.
+#![tactic(auto)]
+
 use answers::{End, Microcycles, Steps};
 use blocks::memory::Store;
 use status::psw::Psw;
 
 // The state of the micro level: the phase level's without its latches, with the PSW as its six bits.
-#[derive(Drop)]
+#[derive(Clone, Copy)]
 pub struct MicroMachine {
     pub registers: [u32; 32],
     pub psw: Psw,
@@ -19,7 +21,7 @@ pub struct MicroMachine {
 }
 
 // The state beside the registers.
-#[derive(Drop)]
+#[derive(Clone, Copy)]
 pub struct Core {
     pub psw: Psw,
     pub pc: u32,
@@ -31,7 +33,7 @@ pub struct Core {
 }
 
 // The registers that a microcycle may read: those that the instruction names, and SSP.
-#[derive(Drop)]
+#[derive(Clone, Copy)]
 pub struct Read {
     pub srca: u32,
     pub srcb: u32,
@@ -41,7 +43,7 @@ pub struct Read {
 
 // What a microcycle does: the new state, the register that gets the value (0, which is never written,
 // for none), and what is stored.
-#[derive(Drop)]
+#[derive(Clone, Copy)]
 pub struct Performed {
     pub core: Core,
     pub register: u32,
@@ -51,7 +53,7 @@ pub struct Performed {
 
 // The state of the micro level, as a caller lends it. The PSW is a number.
 #[repr(C)]
-#[derive(Drop)]
+#[derive(Clone, Copy)]
 pub struct MicroState {
     pub registers: [u32; 32],
     pub psw: u32,
@@ -64,7 +66,7 @@ pub struct MicroState {
 }
 
 // How a run went on: the state after the last completed microcycle, and the two clocks.
-#[derive(Drop)]
+#[derive(Clone, Copy)]
 pub struct Ran {
     pub end: End,
     pub microcycles: Microcycles,
@@ -72,7 +74,7 @@ pub struct Ran {
     pub machine: MicroMachine,
 }
 
-#[derive(Drop)]
+#[derive(Clone, Copy)]
 pub struct MicroAnswer {
     pub end: End,
     pub microcycles: Microcycles,
@@ -81,7 +83,7 @@ pub struct MicroAnswer {
 }
 
 // How a microcycle went: not done where it would leave, and then the state is the one before it.
-#[derive(Drop)]
+#[derive(Clone, Copy)]
 pub struct Advanced {
     pub leaves: bool,
     pub core: Core,

@@ -1,5 +1,7 @@
 // The call of a phase: what C lends is tested and copied in, the phase is done, and all goes back
 // to where it was lent. The crate schoonleech exports it as avm_phase.
+#![tactic(auto)]
+
 ghost use Rattle.std.specs.Prelude.{◌≡◌};
 ghost use Rattle.phase_call.specs.Phase.{phase_state, phase_words, latch_words, phase_found, avm_phase};
 

@@ -1,11 +1,13 @@
 // The phase level: its state, as the phases see it and as a caller lends it, and what a call of one
 // phase answers. There is no function here: specs/ says what a phase and a call of it mean, proofs/
 // what follows from it, and phase_level does it.
+#![tactic(auto)]
+
 use answers::End;
 use status::psw::Psw;
 
 // The state of the phase level, with the PSW as its six bits.
-#[derive(Drop)]
+#[derive(Clone, Copy)]
 pub struct PhaseMachine {
     pub registers: [u32; 32],
     pub psw: Psw,
@@ -24,7 +26,7 @@ pub struct PhaseMachine {
 }
 
 // The state of the phase level, as a caller lends it. The PSW is a number.
-#[derive(Drop)]
+#[derive(Clone, Copy)]
 pub struct PhaseState {
     pub registers: [u32; 32],
     pub psw: u32,
@@ -42,7 +44,7 @@ pub struct PhaseState {
     pub phase: u32,
 }
 
-#[derive(Drop)]
+#[derive(Clone, Copy)]
 pub struct PhaseAnswer {
     pub end: End,
     pub state: PhaseState,

@@ -1,4 +1,6 @@
 // The published microprogram: the table of its 64 microwords. specs/ has it by fields.
+#![tactic(auto)]
+
 ghost use Rattle.std.specs.Prelude.{◌≡◌, ◌%◌};
 ghost use Rattle.control_store.specs.ControlStore.{word_at};
 ghost use Rattle.published.specs.Listing.{published};

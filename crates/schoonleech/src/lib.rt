@@ -1,6 +1,8 @@
 // The C calls under the names and with the contracts that include/schoonleech.h tells a C author.
 // Nothing is decided here: each call is a function of a crate below. A board is copied out of its
 // place, advanced by value, and stored back whole.
+#![tactic(auto)]
+
 ghost use Rattle.std.specs.Prelude.{◌≡◌, ◌%◌};
 ghost use Rattle.control_store.specs.ControlStore.{word_at};
 ghost use Rattle.published.specs.Listing.{published};

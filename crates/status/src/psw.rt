@@ -4,7 +4,7 @@ ghost use Rattle.status.specs.Psw.{mk_psw, get_psw, changed, clocked, next_psw};
 
 use alu::Flags;
 
-#[derive(Drop)]
+#[derive(Clone, Copy)]
 pub struct Psw {
     pub sm: bool,
     pub ie: bool,
@@ -15,7 +15,7 @@ pub struct Psw {
 }
 
 // The two lines of a bit that can be set and cleared.
-#[derive(Drop)]
+#[derive(Clone, Copy)]
 pub struct Change {
     pub set: bool,
     pub clear: bool,
@@ -23,7 +23,7 @@ pub struct Change {
 
 // The lines into the PSW: `set` takes a whole word, `clock` the single bits, `load` says which of
 // `flags` are taken.
-#[derive(Drop)]
+#[derive(Clone, Copy)]
 pub struct PswLines {
     pub set: bool,
     pub clock: bool,

@@ -4,7 +4,7 @@ ghost use Rattle.words.specs.Shifter.{shifter};
 
 use crate::predicates::negative;
 
-#[derive(Drop)]
+#[derive(Clone, Copy)]
 pub struct ShifterOutput {
     pub value: u32,
     pub carry: bool,
