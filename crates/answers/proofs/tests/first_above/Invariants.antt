@@ -1,0 +1,16 @@
+-- The loop's invariant: the first place from the start is the one that is found from here on.
+use borrow.Author.Rules.{rules}
+use borrow.Author.Tests.{lt-ltb, le-ltb}
+use Prim.Native.Nat.{◌≤◌, ◌-◌, ◌+◌}
+use native.Mathlib.Omega.{arith}
+use mathlib.Core.Path.{◌≡◌, sym, ◌∙◌}
+use lib.ListN.{length, drop}
+use Rattle.answers.specs.Places.{above, first_place}
+use Rattle.answers.proofs.FirstPlace.{bad_here, passed, none_left}
+use Rattle.answers.proofs.tests.first_above.Given as goal
+
+abbrev pub invariant-loop-at : goal.invariant-loop-at
+invariant-loop-at l = (l.at ≤ length l.bytes) × (first_place (above l.most) l.bytes ≡ l.at + first_place (above l.most) (drop l.at l.bytes))
+
+abbrev pub decreases-loop-at : goal.decreases-loop-at
+decreases-loop-at l = length l.bytes - l.at
