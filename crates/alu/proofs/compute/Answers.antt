@@ -46,17 +46,4 @@ returns-in-9 c = rw c.in-9.is c.pass-in-9.ensures
 
 pub returns-in_default : goal.returns-in_default
 unfolding alu
-returns-in_default c =
-    simp (
-      ne_eqb _ _ c.in_default.rest.0.0.0.0.0.0.0.0.0.1,
-      ne_eqb _ _ c.in_default.rest.0.0.0.0.0.0.0.0.1,
-      ne_eqb _ _ c.in_default.rest.0.0.0.0.0.0.0.1,
-      ne_eqb _ _ c.in_default.rest.0.0.0.0.0.0.1,
-      ne_eqb _ _ c.in_default.rest.0.0.0.0.0.1,
-      ne_eqb _ _ c.in_default.rest.0.0.0.0.1,
-      ne_eqb _ _ c.in_default.rest.0.0.0.1,
-      ne_eqb _ _ c.in_default.rest.0.0.1,
-      ne_eqb _ _ c.in_default.rest.0.1,
-      ne_eqb _ _ c.in_default.rest.1,
-    )
-    c.pass-in_default.ensures
+returns-in_default c = search rules

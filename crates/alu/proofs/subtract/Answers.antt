@@ -12,7 +12,7 @@ unfolding subtracted xor
 returns c =
     let a_fits = c.ranges.a.fits in
     let b_fits = c.ranges.b.fits in
-    let right = difference_is _ _ _ _ _ a_fits b_fits c.wrapping_sub_u32-value.type_inv c.wrapping_sub_u32-partial.ensures c.wrapping_sub_u32-value.ensures in
+    let right = difference_is _ _ _ _ _ a_fits b_fits c.wrapping_sub_u32-value.type_inv c.wrapping_sub_u32-partial.ensures.value c.wrapping_sub_u32-value.ensures.value in
     output_is _ _ _ _ _ _ _ _ right
     c.negative-n.ensures
     c.zero.ensures
