@@ -2,12 +2,8 @@
 use native.Mathlib.Nat.{div-one}
 use Rattle.words.specs.Words.{bit}
 use Rattle.status.specs.Psw.{get_psw}
-use Rattle.status.proofs.psw.from_word.Statement.{statement}
-use Rattle.status.proofs.psw.from_word.Tie as tie
+use Rattle.status.proofs.psw.from_word.Goals as goal
 
-returns : tie.Need-returns
+pub returns : goal.returns
 unfolding get_psw bit
 returns c = rw div-one
-
-pub from_word_spec : {M : Type 1} → statement M
-from_word_spec = tie.close (tie.spec returns)
