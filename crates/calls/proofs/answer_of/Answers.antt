@@ -1,0 +1,6 @@
+-- Number and value are what the call ensures.
+use borrow.Author.Rules.{rules}
+use Rattle.calls.proofs.answer_of.Goals as goal
+
+pub returns : goal.returns
+returns c = rw c.shown-shown.ensures
