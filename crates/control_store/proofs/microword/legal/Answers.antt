@@ -1,0 +1,8 @@
+-- The tests are the definition's.
+use borrow.Author.Rules.{rules}
+use Rattle.control_store.specs.Codes.{legal_microword}
+use Rattle.control_store.proofs.microword.legal.Goals as goal
+
+pub returns : goal.returns
+unfolding legal_microword
+returns c = rw c.fields-m.ensures
