@@ -1,0 +1,8 @@
+-- The choice is the definition's.
+use borrow.Author.Rules.{rules}
+use Rattle.phase_meaning.specs.Phases.{phase_three}
+use Rattle.phase_level.proofs.phases.three.Goals as goal
+
+pub returns : goal.returns
+unfolding phase_three
+returns c = rw (c.choose-mar.ensures, c.fields-word.ensures)
