@@ -45,7 +45,8 @@ module _ (program mem registers : List ℕ) (core : Core) (done returns : ℕ) (
       let went : advanced_to out after registers' ≡ outcome false = e ∙ ap outcome stays in
       let state : machine registers' out.core ≡ next = ap (λ (a : AdvancedTo). machine a.registers a.answer.core) went in
       let memory : after ≡ applied (micro_store program s) mem = ap (λ (a : AdvancedTo). a.memory) went in
-      rw (drop-cons requests i 0 h, stays, state, memory, add-one i)
+      let fetch : at_fetch (machine registers' out.core) ≡ at_fetch next = ap at_fetch state in
+      rw (drop-cons requests i 0 h, stays, state, memory, add-one i, fetch)
 
   pub stop : out.leaves ≡ true → run_on program mem s done returns (drop i requests) ≡ ended NextAddress after (machine registers' out.core) done returns
   unfolding run_on
