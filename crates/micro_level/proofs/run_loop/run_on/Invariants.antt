@@ -1,0 +1,22 @@
+-- The loop's invariant: running what is left from here is running the whole from the start; returns are at most microcycles.
+use borrow.Author.Rules.{rules}
+use Prim.Native.Nat.{ℕ, ◌≤◌, ◌-◌}
+use native.Mathlib.Omega.{arith}
+use mathlib.Core.Path.{◌≡◌, refl, sym, ap, ◌∙◌}
+use mathlib.Core.List.{List}
+use lib.ListN.{length, drop}
+use Rattle.words.proofs.FlagNumbers.{num_le}
+use Rattle.micro_meaning.specs.declared.MicroMachine.{MicroMachine}
+use Rattle.micro_meaning.specs.declared.Core.{Core}
+use Rattle.micro_meaning.specs.Performing.{core_of, machine}
+use Rattle.micro_meaning.specs.Run.{RanOn, at_fetch, run_on}
+use Rattle.micro_meaning.proofs.RunTurns.{more, stop, over}
+use Rattle.micro_level.proofs.run_loop.run_on.Given as goal
+
+abbrev pub invariant-loop-at : goal.invariant-loop-at
+invariant-loop-at l =
+    (l.at ≤ length l.requests) × (l.returns ≤ l.at) × (length l.memory ≡ length l.initial.memory)
+    × (run_on l.program l.initial.memory (machine l.initial.registers l.initial.core) 0 0 l.requests ≡ run_on l.program l.memory (machine l.registers l.core) l.at l.returns (drop l.at l.requests))
+
+abbrev pub decreases-loop-at : goal.decreases-loop-at
+decreases-loop-at l = length l.requests - l.at
