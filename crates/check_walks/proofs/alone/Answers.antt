@@ -4,12 +4,8 @@ use Prim.Native.Nat.{◌%◌, ◌^◌}
 use native.Mathlib.Omega.{arith}
 use lib.Pow.{shl_exact}
 use Rattle.check_meaning.specs.Survey.{alone}
-use Rattle.check_walks.proofs.alone.Statement.{statement}
-use Rattle.check_walks.proofs.alone.Tie as tie
+use Rattle.check_walks.proofs.alone.Goals as goal
 
-returns : tie.Need-returns
+pub returns : goal.returns
 unfolding alone
 returns c = let fits = shl_exact {a = 1} 1 (c.args.a % 2 ^ 6) 64 (omega arith) (omega arith) in rw fits (omega arith)
-
-pub alone_spec : {M : Type 1} → statement M
-alone_spec = tie.close (tie.spec (λ c. search rules) (λ c. search rules) returns)
