@@ -1,6 +1,6 @@
 -- LEGAL STATES stay legal: from a state that a caller can lend, every step leads to such a state. Many laws ask for a legal state; by this
 -- one a program that begins in one never leaves them (Throughout).
-use Prim.Native.Nat.{ℕ, zero, ◌^◌, ◌<◌}
+use Prim.Native.Nat.{ℕ, ◌^◌, ◌<◌}
 use native.Mathlib.Nat.{lt_of_lt_of_le, lt_of_le_of_lt}
 use native.Mathlib.Omega.{arith}
 use mathlib.Core.Path.{ap, ◌∙◌}
@@ -8,7 +8,7 @@ use mathlib.Core.Bool.{Bool, true, false, cond}
 use lib.Bits.{bit_and, and_le_l}
 use Rattle.words.specs.Fields.{imm, srca, srcb, dest}
 use Rattle.words.specs.Lengths.{legal_length}
-use Rattle.words.specs.Registers.{register, ssp_reg, update_reg}
+use Rattle.words.specs.Registers.{ssp_reg, update_reg}
 use Rattle.words.proofs.FieldBounds.{field_lt}
 use Rattle.words.proofs.WordLists.{Words, set_words}
 use Rattle.words.proofs.RegisterRule.{stored_or_not, length_kept, zero_kept}

@@ -1,7 +1,6 @@
 -- REGISTER 0: no step changes it. That it reads as zero for ever is in Throughout.
 use mathlib.Core.Path.{◌≡◌, ap, ◌∙◌}
 use mathlib.Core.Bool.{Bool}
-use Rattle.words.specs.Registers.{register}
 use Rattle.words.proofs.RegisterRule.{zero_kept}
 use Rattle.macro_meaning.specs.Step.{Macro}
 use Rattle.macro_meaning.specs.Programs.{next, holds}

@@ -6,7 +6,7 @@ use mathlib.Core.Bool.{Bool, true, false}
 use mathlib.Core.Logic.{◌⊎◌, inl, inr}
 use lib.ListN.{get_or}
 use lib.Seq.{get_or-set_other}
-use Rattle.words.specs.Registers.{register, ssp_reg, is_sup_reg, update_reg}
+use Rattle.words.specs.Registers.{ssp_reg, is_sup_reg, update_reg}
 use Rattle.words.proofs.RegisterRule.{seven_kept}
 use Rattle.macro_meaning.specs.declared.Effect.{Effect}
 use Rattle.blocks.specs.Memory.{fetch}

@@ -1,0 +1,25 @@
+-- The tests are the definition's, in its order.
+use mathlib.Core.Path.{ap}
+use mathlib.Core.Bool.{not}
+use Rattle.std.proofs.Common.{sym}
+use Rattle.macro_meaning.proofs.RunTests.{lent_refused, request_refused, nothing_refused}
+use Rattle.macro_level.proofs.run.tested.Goals as goal
+
+pub returns-then-not-done : goal.returns-then-not-done
+returns-then-not-done c =
+    let args = c.args in
+    sym (lent_refused args.words args.s args.requests.now c.lent-lent.ensures c.done.ensures (ap not c.if-not-done.true))
+
+pub returns-then-place-requests : goal.returns-then-place-requests
+returns-then-place-requests c =
+    let args = c.args in
+    sym
+    (request_refused args.words args.s args.requests.now c.lent-lent.ensures c.done.ensures (ap not c.if-not-done.false)
+    c.first_above-place.ensures c.if-place-requests.true)
+
+pub returns : goal.returns
+returns c =
+    let args = c.args in
+    sym
+    (nothing_refused args.words args.s args.requests.now c.lent-lent.ensures c.done.ensures (ap not c.if-not-done.false)
+    c.first_above-place.ensures c.if-place-requests.false)
