@@ -19,7 +19,7 @@ use Rattle.image_meaning.specs.declared.Reading.{Reading}
 use Rattle.image_meaning.specs.declared.Reading.TheVariants.{Open, Ended, Refused}
 use Rattle.image_meaning.specs.Lines.{lines_of}
 use Rattle.image_meaning.specs.Records.{record_of}
-use Rattle.image_meaning.specs.Reading.{most_text, data_kind, end_kind, data_read, tested, next, read_lines, judged, read_answer}
+use Rattle.image_meaning.specs.Reading.{most_text, data_kind, end_kind, data_read, tested, read_lines, judged, read_answer}
 use Rattle.image_meaning.specs.Outcomes.{Outcome, TextOutcome}
 use Rattle.image_meaning.specs.Outcomes.{data_record, end_record, no_record, sum_wrong, other_type, data_misplaced, end_misplaced, too_early, no_end_record, line_behind}
 use Rattle.image_meaning.specs.Outcomes.{length_illegal, text_too_long, by_its_lines}
