@@ -6,22 +6,23 @@ ghost use Rattle.std.specs.Prelude.{◌≡◌};
 ghost use Rattle.image.specs.Image.{image_answer, image_room};
 
 use answers::End;
-use libc::{STDIN_FILENO, STDOUT_FILENO};
+use std::io;
+use std::io::{Print, Read};
 
-fn main() {
+fn main(rt: HostRuntime) -> io::Result<()> {
     // one byte more than the longest input, so that a longer one is seen
-    let mut text = [0u8; 65537];
-    let read = io::read_full(STDIN_FILENO, &mut text);
-    show(&text[..read]);
+    let mut text = Vec::new(rt.alloc());
+    rt.reader().take(65537).read_to_end(&mut text)?;
+    show(&rt, &text)
 }
 
-fn show(text: &[u8]) {
+fn show(out: &impl Print, text: &[u8]) -> io::Result<()> {
     let mut room = [0u8; 188];
     let end = image(text, &mut room);
     if answers::done(end) {
-        io::write_all(STDOUT_FILENO, &room);
+        out.write_all(&room)
     } else {
-        show_refusal(end);
+        show_refusal(out, end)
     }
 }
 
@@ -41,11 +42,7 @@ fn image(text: &[u8], room: &mut [u8]) -> End
     end
 }
 
-fn show_refusal(end: End) {
+fn show_refusal(out: &impl Print, end: End) -> io::Result<()> {
     let shown = answers::shown(end);
-    io::write_all(STDOUT_FILENO, b"refused ");
-    io::print_decimal(STDOUT_FILENO, shown.number);
-    io::write_all(STDOUT_FILENO, b" line ");
-    io::print_decimal(STDOUT_FILENO, shown.at);
-    io::write_all(STDOUT_FILENO, b"\n");
+    println!(out; "refused {} line {}", shown.number, shown.at)
 }
