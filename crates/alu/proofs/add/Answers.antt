@@ -1,5 +1,4 @@
 -- The value by two wrapping sums, the flags from it: `Sums` has the value and the carry, `OverflowBySigns` the overflow.
-use Rattle.std.proofs.Common.{rules}
 use mathlib.Core.Bool.{xor}
 use Rattle.alu.specs.Alu.{added}
 use Rattle.alu.proofs.Sums.{sum_is, sum_carry_is}

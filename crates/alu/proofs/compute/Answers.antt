@@ -1,5 +1,5 @@
 -- One arm a code; a code past the last is none of the ten.
-use Rattle.std.proofs.Common.{rules, ne_eqb}
+use Rattle.std.proofs.Common.{rules}
 use Rattle.words.specs.Words.{bnot}
 use Rattle.alu.specs.Alu.{alu}
 use Rattle.alu.proofs.compute.Goals as goal

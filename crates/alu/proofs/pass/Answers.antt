@@ -1,5 +1,5 @@
 -- Both tests are made on the value that is passed.
-use Rattle.std.proofs.Common.{refl, rules}
+use Rattle.std.proofs.Common.{refl}
 use Rattle.alu.specs.Alu.{plain}
 use Rattle.alu.proofs.Outputs.{output_is}
 use Rattle.alu.proofs.pass.Goals as goal

@@ -1,5 +1,4 @@
 -- The value by two wrapping differences, the flags from it: `Sums` has the value and the carry, `OverflowBySigns` the overflow.
-use Rattle.std.proofs.Common.{rules}
 use mathlib.Core.Bool.{xor}
 use Rattle.alu.specs.Alu.{subtracted}
 use Rattle.alu.proofs.Sums.{difference_is, difference_carry_is}

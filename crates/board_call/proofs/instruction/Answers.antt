@@ -1,5 +1,4 @@
 -- The one end is the law's.
-use borrow.Author.Rules.{rules}
 use Rattle.board_call.proofs.OneByte.{instruction_done}
 use Rattle.board_call.proofs.instruction.Goals as goal
 

@@ -1,5 +1,4 @@
 -- Number and value are what the call ensures.
-use borrow.Author.Rules.{rules}
 use Rattle.calls.proofs.answer_of.Goals as goal
 
 pub returns : goal.returns

@@ -1,9 +1,8 @@
 -- The loop's invariant: the first k registers are copied.
 use borrow.Author.Rules.{rules}
-use Prim.Native.Nat.{◌≤◌, ◌-◌}
 use native.Mathlib.Omega.{arith}
-use mathlib.Core.Path.{◌≡◌, refl}
-use lib.ListN.{length, take, length-set}
+use mathlib.Core.Path.{refl}
+use lib.ListN.{length-set}
 use Rattle.calls.proofs.ElementwiseCopy.{one_more, whole}
 use Rattle.calls.proofs.copy_from.Goals as goal
 

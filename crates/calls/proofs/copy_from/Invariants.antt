@@ -1,10 +1,7 @@
 -- The loop's invariant: the first k registers are copied.
-use borrow.Author.Rules.{rules}
 use Prim.Native.Nat.{◌≤◌, ◌-◌}
-use native.Mathlib.Omega.{arith}
-use mathlib.Core.Path.{◌≡◌, refl}
-use lib.ListN.{length, take, length-set}
-use Rattle.calls.proofs.ElementwiseCopy.{one_more, whole}
+use mathlib.Core.Path.{◌≡◌}
+use lib.ListN.{length, take}
 use Rattle.calls.proofs.copy_from.Given as goal
 
 abbrev pub invariant-loop-k : goal.invariant-loop-k

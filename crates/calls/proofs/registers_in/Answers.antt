@@ -1,5 +1,4 @@
 -- The registers, or none of them, by their count.
-use borrow.Author.Rules.{rules}
 use mathlib.Core.Path.{◌∙◌}
 use Rattle.calls.proofs.Fitting.{nothing_in, all_in}
 use Rattle.calls.proofs.registers_in.Goals as goal

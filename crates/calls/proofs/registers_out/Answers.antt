@@ -1,5 +1,4 @@
 -- The registers, or none of them, by the count of the lent place.
-use borrow.Author.Rules.{rules}
 use mathlib.Core.Path.{◌∙◌}
 use Rattle.calls.proofs.Fitting.{nothing_out, all_out}
 use Rattle.calls.proofs.registers_out.Goals as goal

@@ -1,7 +1,6 @@
 -- Each end is a case of the definition.
 use mathlib.Core.Path.{ap}
 use mathlib.Core.Bool.{not}
-use borrow.Author.Rules.{rules}
 use Rattle.calls.proofs.Fitting.{length_refused, count_refused, both_passed}
 use Rattle.calls.proofs.test.Goals as goal
 

@@ -1,5 +1,4 @@
 -- The checker's answer, shown.
-use borrow.Author.Rules.{rules}
 use Rattle.check_call.proofs.check.Goals as goal
 
 pub returns : goal.returns

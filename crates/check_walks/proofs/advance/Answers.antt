@@ -1,5 +1,4 @@
 -- One microcycle, from what its two calls ensure.
-use borrow.Author.Rules.{rules}
 use Rattle.check_walks.proofs.SurveyTurns.{advances}
 use Rattle.check_walks.proofs.advance.Goals as goal
 

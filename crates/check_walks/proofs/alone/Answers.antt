@@ -1,5 +1,4 @@
 -- The set of one address of six bits has 64 bits.
-use borrow.Author.Rules.{rules}
 use Prim.Native.Nat.{◌%◌, ◌^◌}
 use native.Mathlib.Omega.{arith}
 use lib.Pow.{shl_exact}

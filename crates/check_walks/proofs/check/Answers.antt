@@ -1,7 +1,6 @@
 -- Each way out is a way of the verdict, and the verdict is what is meant.
 use mathlib.Core.Path.{ap}
 use mathlib.Core.Bool.{not}
-use borrow.Author.Rules.{rules}
 use Rattle.check_walks.proofs.VerdictCases.{refused_first, can_leave, late, fine}
 use Rattle.check_walks.proofs.check.Goals as goal
 

@@ -1,5 +1,4 @@
 -- The sequencer's own answer.
-use borrow.Author.Rules.{rules}
 use native.Mathlib.Omega.{arith}
 use Rattle.words.proofs.FlagNumbers.{num_le}
 use Rattle.check_walks.proofs.extreme.Goals as goal

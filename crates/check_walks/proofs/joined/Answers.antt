@@ -1,5 +1,4 @@
 -- The lowest bit chooses.
-use borrow.Author.Rules.{rules}
 use Rattle.check_walks.proofs.SurveyTurns.{joins, joins_nothing}
 use Rattle.check_walks.proofs.joined.Goals as goal
 

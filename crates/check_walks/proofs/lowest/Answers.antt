@@ -1,5 +1,4 @@
 -- The count of zeros below the lowest bit is at most 64.
-use borrow.Author.Rules.{rules}
 use native.Mathlib.Omega.{arith}
 use lib.Count.{trailing_le}
 use Rattle.check_walks.proofs.lowest.Goals as goal

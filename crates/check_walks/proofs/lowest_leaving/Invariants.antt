@@ -1,11 +1,8 @@
 -- The loop's invariant: the lowest word that leaves is the lowest from here on.
-use borrow.Author.Rules.{rules}
 use Prim.Native.Nat.{◌≤◌, ◌-◌}
-use native.Mathlib.Omega.{arith}
-use mathlib.Core.Path.{◌≡◌, refl, sym, ◌∙◌}
+use mathlib.Core.Path.{◌≡◌}
 use lib.ListN.{length, drop}
 use Rattle.check_meaning.specs.Survey.{first_leaving, lowest_leaving}
-use Rattle.check_walks.proofs.SurveyTurns.{leaving_here, leaving_later, none_leaving}
 use Rattle.check_walks.proofs.lowest_leaving.Given as goal
 
 abbrev pub invariant-loop-at : goal.invariant-loop-at

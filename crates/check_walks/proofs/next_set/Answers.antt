@@ -1,5 +1,4 @@
 -- The opcodes' words for `jop`, else the two extremes.
-use borrow.Author.Rules.{rules}
 use Rattle.check_walks.proofs.SurveyTurns.{by_opcode, by_two}
 use Rattle.check_walks.proofs.next_set.Goals as goal
 

@@ -1,5 +1,4 @@
 -- The code's two tests are the definition's.
-use borrow.Author.Rules.{rules}
 use Rattle.check_meaning.specs.Survey.{passes}
 use Rattle.check_walks.proofs.passes.Goals as goal
 

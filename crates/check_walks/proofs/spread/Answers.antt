@@ -1,10 +1,7 @@
 -- The loop's invariant: what the words from here on add is what all of them add.
 use borrow.Author.Rules.{rules}
-use Prim.Native.Nat.{◌≤◌, ◌-◌}
 use native.Mathlib.Omega.{arith}
-use mathlib.Core.Path.{◌≡◌, refl, sym, ◌∙◌}
-use lib.ListN.{length, drop}
-use Rattle.check_meaning.specs.Survey.{spread}
+use mathlib.Core.Path.{refl, sym, ◌∙◌}
 use Rattle.check_walks.proofs.SurveyTurns.{spread_more, spread_nothing, spread_over}
 use Rattle.check_walks.proofs.spread.Goals as goal
 

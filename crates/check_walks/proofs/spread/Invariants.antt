@@ -1,11 +1,8 @@
 -- The loop's invariant: what the words from here on add is what all of them add.
-use borrow.Author.Rules.{rules}
 use Prim.Native.Nat.{◌≤◌, ◌-◌}
-use native.Mathlib.Omega.{arith}
-use mathlib.Core.Path.{◌≡◌, refl, sym, ◌∙◌}
+use mathlib.Core.Path.{◌≡◌}
 use lib.ListN.{length, drop}
 use Rattle.check_meaning.specs.Survey.{spread}
-use Rattle.check_walks.proofs.SurveyTurns.{spread_more, spread_nothing, spread_over}
 use Rattle.check_walks.proofs.spread.Given as goal
 
 abbrev pub invariant-loop-at : goal.invariant-loop-at

@@ -1,8 +1,8 @@
 -- The loop's invariant: what is left of the survey from here is all of it.
 use borrow.Author.Rules.{rules}
-use Prim.Native.Nat.{◌≤◌, ◌-◌}
-use mathlib.Core.Path.{◌≡◌, refl, sym, ◌∙◌}
-use Rattle.check_meaning.specs.Survey.{survey, rounds, surveyed}
+use Prim.Native.Nat.{◌-◌}
+use mathlib.Core.Path.{refl, sym, ◌∙◌}
+use Rattle.check_meaning.specs.Survey.{rounds}
 use Rattle.check_walks.proofs.SurveyTurns.{walks_on, none_under_way, all_done}
 use Rattle.check_walks.proofs.surveyed.Goals as goal
 

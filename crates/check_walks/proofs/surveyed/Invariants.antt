@@ -1,9 +1,7 @@
 -- The loop's invariant: what is left of the survey from here is all of it.
-use borrow.Author.Rules.{rules}
 use Prim.Native.Nat.{◌≤◌, ◌-◌}
-use mathlib.Core.Path.{◌≡◌, refl, sym, ◌∙◌}
+use mathlib.Core.Path.{◌≡◌}
 use Rattle.check_meaning.specs.Survey.{survey, rounds, surveyed}
-use Rattle.check_walks.proofs.SurveyTurns.{walks_on, none_under_way, all_done}
 use Rattle.check_walks.proofs.surveyed.Given as goal
 
 abbrev pub invariant-loop-done : goal.invariant-loop-done

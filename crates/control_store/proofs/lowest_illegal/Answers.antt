@@ -2,12 +2,9 @@
 use mathlib.Core.Path.{ap}
 use mathlib.Core.Bool.{not}
 use borrow.Author.Rules.{rules}
-use Prim.Native.Nat.{◌≤◌, ◌-◌, ◌+◌}
 use native.Mathlib.Omega.{arith}
-use mathlib.Core.Path.{◌≡◌, sym, ap, ◌∙◌}
+use mathlib.Core.Path.{sym, ap, ◌∙◌}
 use mathlib.Core.Bool.{not}
-use lib.ListN.{length, drop}
-use Rattle.answers.specs.Places.{first_place}
 use Rattle.answers.proofs.FirstPlace.{bad_here, passed, none_left}
 use Rattle.control_store.specs.ControlStore.{illegal}
 use Rattle.control_store.proofs.lowest_illegal.Goals as goal

@@ -1,14 +1,8 @@
 -- The loop's invariant: the lowest illegal word from the start is the one that is found from here on.
-use mathlib.Core.Path.{ap}
-use mathlib.Core.Bool.{not}
-use borrow.Author.Rules.{rules}
 use Prim.Native.Nat.{◌≤◌, ◌-◌, ◌+◌}
-use native.Mathlib.Omega.{arith}
-use mathlib.Core.Path.{◌≡◌, sym, ap, ◌∙◌}
-use mathlib.Core.Bool.{not}
+use mathlib.Core.Path.{◌≡◌}
 use lib.ListN.{length, drop}
 use Rattle.answers.specs.Places.{first_place}
-use Rattle.answers.proofs.FirstPlace.{bad_here, passed, none_left}
 use Rattle.control_store.specs.ControlStore.{illegal}
 use Rattle.control_store.proofs.lowest_illegal.Given as goal
 

@@ -1,7 +1,6 @@
 -- The tests are the definition's, in its order.
 use mathlib.Core.Path.{ap}
 use mathlib.Core.Bool.{not}
-use borrow.Author.Rules.{rules}
 use mathlib.Core.Path.{sym, ◌∙◌}
 use Rattle.control_store.proofs.MachineTest.{machine_refused, the_program}
 use Rattle.control_store.proofs.machine_tested.Goals as goal

@@ -1,5 +1,4 @@
 -- Each end is a case of the definition.
-use borrow.Author.Rules.{rules}
 use Rattle.micro_call.proofs.RunCases.{run_refused, run_done}
 use Rattle.micro_call.proofs.run.Goals as goal
 

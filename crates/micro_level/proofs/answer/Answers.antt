@@ -1,5 +1,4 @@
 -- The state as lent where the run was cut before its first microcycle was done.
-use borrow.Author.Rules.{rules}
 use mathlib.Core.Path.{◌≡◌}
 use mathlib.Core.Bool.{Bool, true, false, not, ◌&&◌}
 use Rattle.answers.specs.Ends.{is_done}

@@ -1,5 +1,4 @@
 -- The PSW is what its call ensures.
-use borrow.Author.Rules.{rules}
 use Rattle.micro_level.proofs.pack.Goals as goal
 
 pub returns : goal.returns

@@ -1,7 +1,6 @@
 -- Each end is a case of the definition; an answer and a memory are the two parts of what was called.
 use mathlib.Core.Path.{ap}
 use mathlib.Core.Bool.{not}
-use borrow.Author.Rules.{rules}
 use mathlib.Core.Path.{sym, ap}
 use Rattle.micro_meaning.specs.Run.{MicroCalled}
 use Rattle.micro_meaning.proofs.RunCalls.{refused, ran}

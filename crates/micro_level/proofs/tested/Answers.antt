@@ -1,7 +1,6 @@
 -- The tests are the definition's, in its order.
 use mathlib.Core.Path.{ap}
 use mathlib.Core.Bool.{not}
-use borrow.Author.Rules.{rules}
 use mathlib.Core.Path.{sym}
 use Rattle.micro_meaning.proofs.RunTests.{lent_refused, outside, request_refused, nothing_refused}
 use Rattle.micro_level.proofs.tested.Goals as goal

@@ -1,5 +1,4 @@
 -- Each word is the state's own.
-use borrow.Author.Rules.{rules}
 use mathlib.Core.Path.{refl}
 use Rattle.phase_call.proofs.latch_words.Goals as goal
 

@@ -1,7 +1,6 @@
 -- Each end is a case of the definition.
 use mathlib.Core.Path.{ap}
 use mathlib.Core.Bool.{not}
-use borrow.Author.Rules.{rules}
 use Rattle.phase_call.proofs.PhaseCases.{call_refused, phase_refused, phase_went}
 use Rattle.phase_call.proofs.phase.Goals as goal
 

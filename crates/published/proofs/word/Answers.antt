@@ -1,5 +1,4 @@
 -- The table is the listing packed: one computed test over its 64 words.
-use borrow.Author.Rules.{rules}
 use mathlib.Core.Path.{refl}
 use Rattle.control_store.specs.ControlStore.{word_at}
 use Rattle.published.specs.Assembler.{packed}

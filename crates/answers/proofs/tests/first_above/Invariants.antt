@@ -1,12 +1,8 @@
 -- The loop's invariant: the first place from the start is the one that is found from here on.
-use borrow.Author.Rules.{rules}
-use borrow.Author.Tests.{lt-ltb, le-ltb}
 use Prim.Native.Nat.{◌≤◌, ◌-◌, ◌+◌}
-use native.Mathlib.Omega.{arith}
-use mathlib.Core.Path.{◌≡◌, sym, ◌∙◌}
+use mathlib.Core.Path.{◌≡◌}
 use lib.ListN.{length, drop}
 use Rattle.answers.specs.Places.{above, first_place}
-use Rattle.answers.proofs.FirstPlace.{bad_here, passed, none_left}
 use Rattle.answers.proofs.tests.first_above.Given as goal
 
 abbrev pub invariant-loop-at : goal.invariant-loop-at

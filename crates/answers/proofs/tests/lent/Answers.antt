@@ -1,7 +1,6 @@
 -- The tests are the definition's, in its order.
 use mathlib.Core.Path.{ap}
 use mathlib.Core.Bool.{not}
-use borrow.Author.Rules.{rules}
 use mathlib.Core.Path.{sym}
 use Rattle.answers.proofs.LentTests.{memory_length, register_zero, nothing_refused}
 use Rattle.answers.proofs.tests.lent.Goals as goal

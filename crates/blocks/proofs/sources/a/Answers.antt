@@ -1,6 +1,5 @@
 -- The arms are the definition's cases, in its order.
 use borrow.Author.Rules.{rules}
-use borrow.Author.Tests.{ne_eqb}
 use Rattle.blocks.specs.Sources.{a_source}
 use Rattle.blocks.proofs.sources.a.Goals as goal
 

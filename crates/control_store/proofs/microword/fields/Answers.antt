@@ -1,5 +1,4 @@
 -- The code is the definition's own expression; the lowest field has nothing divided away.
-use borrow.Author.Rules.{rules}
 use native.Mathlib.Nat.{div-one}
 use Rattle.words.specs.Words.{field, bit}
 use Rattle.control_store.proofs.microword.fields.Goals as goal

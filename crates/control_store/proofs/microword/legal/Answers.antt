@@ -1,5 +1,4 @@
 -- The tests are the definition's.
-use borrow.Author.Rules.{rules}
 use Rattle.control_store.specs.Codes.{legal_microword}
 use Rattle.control_store.proofs.microword.legal.Goals as goal
 

@@ -1,6 +1,5 @@
 -- The arms are the definition's cases, in its order.
 use borrow.Author.Rules.{rules}
-use borrow.Author.Tests.{ne_eqb}
 use mathlib.Core.Path.{sym, ◌∙◌}
 use Rattle.control_store.specs.Sequencer.{mpc_unit}
 use Rattle.control_store.proofs.Conditions.{interrupted, not_interrupted, supervised, not_supervised}

@@ -1,5 +1,4 @@
 -- The ALU's answer and the shifter's are what their calls ensure; the carry is chosen without a branch.
-use borrow.Author.Rules.{rules}
 use Rattle.words.proofs.Cases.{chosen}
 use Rattle.datapath.specs.Operation.{shifted}
 use Rattle.datapath.proofs.operation.operate.Goals as goal

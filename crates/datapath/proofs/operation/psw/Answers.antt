@@ -1,5 +1,4 @@
 -- Where no line asks for a change the PSW stays; otherwise it is what the rule gives for the lines.
-use borrow.Author.Rules.{rules}
 use mathlib.Core.Path.{sym, ◌∙◌}
 use Rattle.datapath.specs.Results.{new_psw}
 use Rattle.datapath.proofs.Targets.{psw_kept}

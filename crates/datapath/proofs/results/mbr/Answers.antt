@@ -1,5 +1,4 @@
 -- A read goes before the result.
-use borrow.Author.Rules.{rules}
 use mathlib.Core.Path.{sym, ◌∙◌}
 use Rattle.datapath.proofs.Targets.{word_read, no_read}
 use Rattle.datapath.proofs.results.mbr.Goals as goal

@@ -1,5 +1,4 @@
 -- The jump decision is asked for where it counts.
-use borrow.Author.Rules.{rules}
 use mathlib.Core.Path.{sym, ◌∙◌}
 use Rattle.datapath.proofs.Targets.{may_jump, no_jump}
 use Rattle.datapath.proofs.results.pc.Goals as goal

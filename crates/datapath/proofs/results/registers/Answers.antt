@@ -1,5 +1,4 @@
 -- One call of the register rule, for the register that the target names.
-use borrow.Author.Rules.{rules}
 use mathlib.Core.Path.{ap, ◌∙◌}
 use Prim.Native.Nat.{ℕ}
 use Rattle.words.specs.Registers.{update_reg}

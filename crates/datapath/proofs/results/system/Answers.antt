@@ -1,5 +1,4 @@
 -- Each register is what its own call ensures.
-use borrow.Author.Rules.{rules}
 use Rattle.datapath.specs.Results.{new_ir, new_mar}
 use Rattle.datapath.proofs.results.system.Goals as goal
 

@@ -1,5 +1,4 @@
 -- The arms are the definition's cases, in its order.
-use borrow.Author.Tests.{ne_eqb}
 use Rattle.datapath.specs.Results.{target_register}
 use Rattle.datapath.proofs.results.target_register.Goals as goal
 use borrow.Author.Rules.{rules}

@@ -1,5 +1,4 @@
 -- The supervisor's registers are guarded by the old sm.
-use borrow.Author.Rules.{rules}
 use Rattle.datapath.proofs.Targets.{none_written, that_written}
 use Rattle.datapath.proofs.results.written_register.Goals as goal
 

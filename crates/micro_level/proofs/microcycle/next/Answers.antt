@@ -1,5 +1,4 @@
 -- The sequencer's answer, on the fields of the microword and of the instruction.
-use borrow.Author.Rules.{rules}
 use native.Mathlib.Nat.{div-one}
 use Rattle.words.specs.Words.{bit}
 use Rattle.datapath.specs.Results.{new_mpc}

@@ -1,5 +1,4 @@
 -- Each part is what its own call ensures.
-use borrow.Author.Rules.{rules}
 use Rattle.micro_meaning.proofs.Performs.{in_all}
 use Rattle.micro_level.proofs.microcycle.perform.Goals as goal
 

@@ -1,5 +1,4 @@
 -- The two outcomes, from what the calls ensure.
-use borrow.Author.Rules.{rules}
 use Rattle.micro_meaning.proofs.Turns.{not_done, went}
 use Rattle.micro_level.proofs.run_loop.advance.Goals as goal
 

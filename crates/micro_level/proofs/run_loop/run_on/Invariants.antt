@@ -1,16 +1,9 @@
 -- The loop's invariant: running what is left from here is running the whole from the start; returns are at most microcycles.
-use borrow.Author.Rules.{rules}
-use Prim.Native.Nat.{ℕ, ◌≤◌, ◌-◌}
-use native.Mathlib.Omega.{arith}
-use mathlib.Core.Path.{◌≡◌, refl, sym, ap, ◌∙◌}
-use mathlib.Core.List.{List}
+use Prim.Native.Nat.{◌≤◌, ◌-◌}
+use mathlib.Core.Path.{◌≡◌}
 use lib.ListN.{length, drop}
-use Rattle.words.proofs.FlagNumbers.{num_le}
-use Rattle.micro_meaning.specs.declared.MicroMachine.{MicroMachine}
-use Rattle.micro_meaning.specs.declared.Core.{Core}
-use Rattle.micro_meaning.specs.Performing.{core_of, machine}
-use Rattle.micro_meaning.specs.Run.{RanOn, at_fetch, run_on}
-use Rattle.micro_meaning.proofs.RunTurns.{more, stop, over}
+use Rattle.micro_meaning.specs.Performing.{machine}
+use Rattle.micro_meaning.specs.Run.{run_on}
 use Rattle.micro_level.proofs.run_loop.run_on.Given as goal
 
 abbrev pub invariant-loop-at : goal.invariant-loop-at

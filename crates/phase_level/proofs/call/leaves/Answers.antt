@@ -1,5 +1,4 @@
 -- The next address is what its call ensures.
-use borrow.Author.Rules.{rules}
 use Rattle.phase_meaning.specs.Call.{leaves}
 use Rattle.phase_level.proofs.call.leaves.Goals as goal
 

@@ -1,7 +1,5 @@
 -- The arms are the definition's cases, in its order.
 use borrow.Author.Rules.{rules}
-use borrow.Author.Tests.{ne_eqb}
-use mathlib.Core.Path.{◌∙◌}
 use Rattle.phase_meaning.specs.Call.{phase_done}
 use Rattle.phase_level.proofs.call.phase_done.Goals as goal
 

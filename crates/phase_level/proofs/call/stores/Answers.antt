@@ -1,5 +1,4 @@
 -- Phase four alone stores.
-use borrow.Author.Rules.{rules}
 use borrow.Author.Tests.{eq-eqb, ne_eqb}
 use Rattle.phase_meaning.specs.Call.{stores}
 use Rattle.phase_level.proofs.call.stores.Goals as goal

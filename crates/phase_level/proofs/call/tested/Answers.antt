@@ -1,7 +1,6 @@
 -- The tests are the definition's, in its order.
 use mathlib.Core.Path.{ap}
 use mathlib.Core.Bool.{not}
-use borrow.Author.Rules.{rules}
 use mathlib.Core.Path.{sym}
 use Rattle.phase_meaning.proofs.TestsInOrder.{lent_refused, mir_refused, outside, request_refused, nothing_refused}
 use Rattle.phase_level.proofs.call.tested.Goals as goal

@@ -1,5 +1,4 @@
 -- Each part is what its own call ensures.
-use borrow.Author.Rules.{rules}
 use Rattle.datapath.specs.Operation.{operated}
 use Rattle.phase_meaning.specs.Phases.{phase_four}
 use Rattle.phase_level.proofs.phases.four.Goals as goal

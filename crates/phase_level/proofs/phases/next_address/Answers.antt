@@ -1,5 +1,4 @@
 -- The sequencer is asked with the fields that the two calls ensure.
-use borrow.Author.Rules.{rules}
 use Rattle.datapath.specs.Results.{new_mpc}
 use Rattle.phase_meaning.specs.Phases.{next_mpc}
 use Rattle.phase_level.proofs.phases.next_address.Goals as goal

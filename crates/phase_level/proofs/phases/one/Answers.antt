@@ -1,5 +1,4 @@
 -- The word is what its call ensures; bit 0 has nothing divided away.
-use borrow.Author.Rules.{rules}
 use native.Mathlib.Nat.{div-one}
 use Rattle.words.specs.Words.{bit}
 use Rattle.phase_meaning.specs.Phases.{interrupt, phase_one}

@@ -1,5 +1,4 @@
 -- What the datapath stores under the microword in MIR.
-use borrow.Author.Rules.{rules}
 use Rattle.phase_meaning.specs.Phases.{phase_store}
 use Rattle.phase_level.proofs.phases.store.Goals as goal
 

@@ -1,5 +1,4 @@
 -- The choice is the definition's.
-use borrow.Author.Rules.{rules}
 use Rattle.phase_meaning.specs.Phases.{phase_three}
 use Rattle.phase_level.proofs.phases.three.Goals as goal
 

@@ -1,5 +1,4 @@
 -- A field of 5 bits names a register; the rest is what the calls ensure.
-use borrow.Author.Rules.{rules}
 use Prim.Native.Nat.{◌<◌}
 use mathlib.Core.Path.{sym, subst}
 use Rattle.words.specs.declared.instruction.Instruction.{Instruction}

@@ -1,7 +1,6 @@
 -- One arm a code; a field past the last code is none of the fourteen.
 use borrow.Author.Rules.{rules}
 use mathlib.Core.Bool.{xor}
-use borrow.Author.Tests.{ne_eqb}
 use Rattle.status.specs.Jump.{jump_cond}
 use Rattle.status.proofs.jump.decide.Goals as goal
 

@@ -1,5 +1,4 @@
 -- Each bit is what its own call ensures.
-use borrow.Author.Rules.{rules}
 use Rattle.status.specs.Psw.{clocked}
 use Rattle.status.proofs.psw.clocked.Goals as goal
 

@@ -1,5 +1,4 @@
 -- The two tests are the definition's, in its order.
-use borrow.Author.Rules.{rules}
 use mathlib.Core.Path.{sym, ◌∙◌}
 use Rattle.status.proofs.PswRule.{whole_word, single_bits, kept}
 use Rattle.status.proofs.psw.next.Goals as goal

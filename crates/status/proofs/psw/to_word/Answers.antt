@@ -1,8 +1,6 @@
 -- Six bits, each 0 or 1, so no product and no sum wraps.
 use borrow.Author.Rules.{rules}
-use native.Mathlib.Omega.{arith}
 use Rattle.status.specs.Psw.{mk_psw}
-use Rattle.status.proofs.PswNumbers.{bits_le}
 use Rattle.status.proofs.psw.to_word.Goals as goal
 
 pub returns : goal.returns
