@@ -4,11 +4,11 @@
 #![tactic(auto)]
 
 use blocks::memory::load;
-use libc::STDOUT_FILENO;
 use macro_level::run::run;
 use macro_meaning::MacroState;
+use std::io;
 
-fn main() {
+fn main(rt: HostRuntime) -> io::Result<()> {
     let mut memory = [0u32; 16];
     memory[0] = instruction(24, 8, 0, 7); // ADDI R8, R0, 7
     memory[1] = instruction(26, 9, 8, 7); // SUBI R9, R8, 7
@@ -21,8 +21,8 @@ fn main() {
     memory[9] = instruction(11, 20, 0, 0); // RTN, stack R20
     memory[10] = instruction(4, 11, 0, 0); // GPSW R11
     memory[11] = instruction(3, 0, 0, 0); // RTI
-    steps(&mut memory);
-    lengths();
+    steps(&rt, &mut memory)?;
+    lengths(&rt)
 }
 
 // An instruction word: opcode, destination, source A and the immediate.
@@ -43,95 +43,102 @@ fn start() -> MacroState {
     }
 }
 
-fn steps(memory: &mut [u32]) {
-    let one = computes(memory, start());
-    let two = loads_and_calls(memory, one);
-    let three = is_interrupted(memory, two);
-    goes_on(memory, three);
+fn steps(rt: &impl Print, memory: &mut [u32]) -> io::Result<()> {
+    let one = computes(rt, memory, start())?;
+    let two = loads_and_calls(rt, memory, one)?;
+    let three = is_interrupted(rt, memory, two)?;
+    goes_on(rt, memory, three)
 }
 
-fn computes(memory: &mut [u32], s: MacroState) -> MacroState {
-    let one = step(b"ADDI          ", memory, s, 0);
-    let two = step(b"SUBI          ", memory, one, 0);
-    step(b"JMP           ", memory, two, 0)
+fn computes(rt: &impl Print, memory: &mut [u32], s: MacroState) -> io::Result<MacroState> {
+    let one = step(rt, b"ADDI          ", memory, s, 0)?;
+    let two = step(rt, b"SUBI          ", memory, one, 0)?;
+    step(rt, b"JMP           ", memory, two, 0)
 }
 
-fn loads_and_calls(memory: &mut [u32], s: MacroState) -> MacroState {
-    let one = step(b"STI           ", memory, s, 0);
-    let two = step(b"LDI           ", memory, one, 0);
-    let three = step(b"CALL          ", memory, two, 0);
-    step(b"RTN           ", memory, three, 0)
+fn loads_and_calls(rt: &impl Print, memory: &mut [u32], s: MacroState) -> io::Result<MacroState> {
+    let one = step(rt, b"STI           ", memory, s, 0)?;
+    let two = step(rt, b"LDI           ", memory, one, 0)?;
+    let three = step(rt, b"CALL          ", memory, two, 0)?;
+    step(rt, b"RTN           ", memory, three, 0)
 }
 
 // The second request finds ie clear.
-fn is_interrupted(memory: &mut [u32], s: MacroState) -> MacroState {
-    let one = step(b"interrupt step", memory, s, 1);
-    let two = step(b"GPSW          ", memory, one, 1);
-    step(b"RTI           ", memory, two, 0)
+fn is_interrupted(rt: &impl Print, memory: &mut [u32], s: MacroState) -> io::Result<MacroState> {
+    let one = step(rt, b"interrupt step", memory, s, 1)?;
+    let two = step(rt, b"GPSW          ", memory, one, 1)?;
+    step(rt, b"RTI           ", memory, two, 0)
 }
 
-fn goes_on(memory: &mut [u32], s: MacroState) {
-    let one = step(b"BNOT          ", memory, s, 0);
-    step(b"PPSW          ", memory, one, 0);
+fn goes_on(rt: &impl Print, memory: &mut [u32], s: MacroState) -> io::Result<()> {
+    let one = step(rt, b"BNOT          ", memory, s, 0)?;
+    step(rt, b"PPSW          ", memory, one, 0)?;
+    Ok(())
 }
 
 // One step with its request, shown.
-fn step(name: &[u8], memory: &mut [u32], s: MacroState, request: u8) -> MacroState {
+fn step(
+    rt: &impl Print,
+    name: &[u8],
+    memory: &mut [u32],
+    s: MacroState,
+    request: u8,
+) -> io::Result<MacroState> {
     let requests = [request];
     let answer = run(memory, s, &requests);
     let after = answer.state;
-    show(name, memory, after);
-    after
+    show(rt, name, memory, after)?;
+    Ok(after)
 }
 
 // A line with the state.
-fn show(name: &[u8], memory: &[u32], s: MacroState) {
+fn show(rt: &impl Print, name: &[u8], memory: &[u32], s: MacroState) -> io::Result<()> {
     let registers = s.registers;
-    label(name);
-    word(b" pc ", s.pc);
-    word(b" psw ", s.psw);
-    show_registers(registers);
-    word(b" m12 ", load(memory, 12));
-    word(b" m13 ", load(memory, 13));
-    word(b" m14 ", load(memory, 14));
-    label(b"\n");
+    label(rt, name)?;
+    word(rt, b" pc ", s.pc)?;
+    word(rt, b" psw ", s.psw)?;
+    show_registers(rt, registers)?;
+    word(rt, b" m12 ", load(memory, 12))?;
+    word(rt, b" m13 ", load(memory, 13))?;
+    word(rt, b" m14 ", load(memory, 14))?;
+    label(rt, b"\n")
 }
 
-fn show_registers(registers: [u32; 32]) {
-    word(b" r1 ", registers[1]);
-    word(b" r8 ", registers[8]);
-    word(b" r9 ", registers[9]);
-    word(b" r10 ", registers[10]);
-    word(b" r11 ", registers[11]);
-    word(b" r12 ", registers[12]);
-    word(b" r20 ", registers[20]);
+fn show_registers(rt: &impl Print, registers: [u32; 32]) -> io::Result<()> {
+    word(rt, b" r1 ", registers[1])?;
+    word(rt, b" r8 ", registers[8])?;
+    word(rt, b" r9 ", registers[9])?;
+    word(rt, b" r10 ", registers[10])?;
+    word(rt, b" r11 ", registers[11])?;
+    word(rt, b" r12 ", registers[12])?;
+    word(rt, b" r20 ", registers[20])
 }
 
-fn lengths() {
-    length(b"8 words: number ", &mut [0; 8]);
-    length(b"16 words: number ", &mut [0; 16]);
-    length(b"24 words: number ", &mut [0; 24]);
-    length(b"16384 words: number ", &mut [0; 16384]);
+fn lengths(rt: &impl Print) -> io::Result<()> {
+    length(rt, b"8 words: number ", &mut [0; 8])?;
+    length(rt, b"16 words: number ", &mut [0; 16])?;
+    length(rt, b"24 words: number ", &mut [0; 24])?;
+    length(rt, b"16384 words: number ", &mut [0; 16384])
 }
 
 // A run of no steps over a memory of so many words.
-fn length(name: &[u8], memory: &mut [u32]) {
+fn length(rt: &impl Print, name: &[u8], memory: &mut [u32]) -> io::Result<()> {
     let answer = run(memory, start(), &[]);
     let end = answer.end;
     let shown = answers::shown(end);
-    number(name, shown.number);
-    label(b"\n");
+    number(rt, name, shown.number)?;
+    label(rt, b"\n")
 }
 
-fn label(text: &[u8]) {
-    io::write_all(STDOUT_FILENO, text);
+fn label(rt: &impl Print, text: &[u8]) -> io::Result<()> {
+    rt.write_all(text)
 }
 
-fn word(name: &[u8], n: u32) {
-    number(name, n as u64);
+fn word(rt: &impl Print, name: &[u8], n: u32) -> io::Result<()> {
+    number(rt, name, n as u64)
 }
 
-fn number(name: &[u8], n: u64) {
-    label(name);
-    io::print_decimal(STDOUT_FILENO, n);
+fn number(rt: &impl Print, name: &[u8], n: u64) -> io::Result<()> {
+    label(rt, name)?;
+    print!(rt; "{n}")
 }
