@@ -2,7 +2,7 @@
 // output; or one line with the number and the line of the refusal.
 #![tactic(auto)]
 
-ghost use Rattle.std.specs.Prelude.{◌≡◌};
+ghost use Rattle.std.specs.Prelude.{◌≡◌, ◌≤◌, length, IfOk};
 ghost use Rattle.image.specs.Image.{image_answer, image_room};
 
 use answers::End;
@@ -11,9 +11,24 @@ use std::io::{Print, Read};
 
 fn main(rt: HostRuntime) -> io::Result<()> {
     // one byte more than the longest input, so that a longer one is seen
-    let mut text = Vec::new(rt.alloc());
-    rt.reader().take(65537).read_to_end(&mut text)?;
-    show(&rt, &text)
+    let mut text = [0u8; 65537];
+    let read = fill(&mut rt.reader(), &mut text)?;
+    show(&rt, &text[..read])
+}
+
+// Reads until the input ends or no room is left, and says how many bytes were read.
+fn fill(from: &mut impl Read, text: &mut [u8]) -> io::Result<usize>
+    ensures { IfOk result (λ read. read ≤ length text.new) }
+{
+    let mut filled: usize = 0;
+    while filled < text.len() {
+        let read = from.read(&mut text[filled..])?;
+        if read == 0 {
+            return Ok(filled);
+        }
+        filled += read;
+    }
+    Ok(filled)
 }
 
 fn show(out: &impl Print, text: &[u8]) -> io::Result<()> {
