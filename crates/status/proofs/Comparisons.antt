@@ -28,7 +28,6 @@ with_flags p f = record { sm = p.sm; ie = p.ie; v = f.v; n = f.n; c = f.c; z = f
 
 -- the PSW after a - b
 abbrev pub compared : Psw → ℕ → ℕ → Psw
-unfolding subtracted
 compared p a b = with_flags p (sub_without_carry a b).flags
 
 -- ---- the words as they are
