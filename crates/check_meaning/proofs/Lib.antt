@@ -2,6 +2,7 @@
 pub mod Sets
 pub mod PossibleNexts
 pub mod NextOfSet
+pub mod OneMicrocycle
 pub mod Standing
 pub mod ReachedEarly
 pub mod LowestLeaving

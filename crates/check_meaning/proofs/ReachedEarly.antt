@@ -12,7 +12,8 @@ use Rattle.check_meaning.specs.Walks.UnderWay.{begun, on}
 use Rattle.check_meaning.specs.Meaning.{most_microcycles}
 use Rattle.check_meaning.specs.Survey.{union}
 use Rattle.check_meaning.proofs.Sets.{has, nothing_or_more}
-use Rattle.check_meaning.proofs.Standing.{after, seen_more, seen_stood, stood_seen, standing_lt, seen_lt}
+use Rattle.check_meaning.proofs.OneMicrocycle.{after, seen_more}
+use Rattle.check_meaning.proofs.Standing.{seen_stood, stood_seen, standing_lt, seen_lt}
 
 module _ (program : List ℕ) where
   -- a walk stands on the word after fewer than n microcycles

@@ -20,8 +20,9 @@ use Rattle.check_meaning.specs.Walks.{Leads, PossibleNext, UnderWay, Walk}
 use Rattle.check_meaning.specs.Walks.UnderWay.{begun, on}
 use Rattle.check_meaning.specs.Walks.Walk.{returned}
 use Rattle.check_meaning.specs.Meaning.{microcycles}
-use Rattle.check_meaning.specs.Survey.{union, in_lowest, spread, start, advance, survey, rounds, surveyed}
+use Rattle.check_meaning.specs.Survey.{union, in_lowest, advance, survey, rounds, surveyed}
 use Rattle.check_meaning.proofs.Sets.{has, has_none, has_union, union_lt}
+use Rattle.check_meaning.proofs.OneMicrocycle.{after, next, standing_next, seen_more, longest_next}
 use Rattle.check_meaning.proofs.NextOfSet.{spread_from, spread_has, from_nowhere, spread_lt}
 
 -- ---- the even part of a set is the set without fetch
@@ -42,127 +43,106 @@ without_fetch n zero away t = absurd (away refl)
 without_fetch n (suc a) away t = even_high n a ∙ t
 
 module _ (program : List ℕ) where
-  -- what is known after k microcycles
-  pub after : ℕ → Survey
-  after zero = start
-  after (suc k) = advance program (microcycles (suc k)) (after k)
-
-  next : ℕ → ℕ
-  next k = spread 0 program (after k).standing 0
-
-  -- ---- one microcycle more
-  standing_next : (k : ℕ) → (after (suc k)).standing ≡ next k / 2 * 2
-  unfolding after advance next
-  standing_next k = refl
-
-  pub seen_more : (k : ℕ) → (after (suc k)).seen ≡ union (after k).seen (after k).standing
-  unfolding after advance
-  seen_more k = refl
-
-  longest_next : (k : ℕ) → (after (suc k)).longest ≡ cond (in_lowest (next k)) (microcycles (suc k)) (after k).longest
-  unfolding after advance next
-  longest_next k = refl
-
   -- ---- the words on which walks stand
   abbrev Stepped : ℕ → ℕ → Type 0
   Stepped k b = (a : ℕ) × UnderWay program k a × PossibleNext program a b
 
-  next_stepped : (k b : ℕ) → ((a : ℕ) → has (after k).standing a ≡ true → UnderWay program k a) → has (next k) b ≡ true → Stepped k b
+  next_stepped : (k b : ℕ) → ((a : ℕ) → has (after program k).standing a ≡ true → UnderWay program k a) → has (next program k) b ≡ true → Stepped k b
   unfolding next
   next_stepped k b sound t =
       ⊎_elim (λ f. absurd (false≢true (sym (has_none b) ∙ f)))
       (λ (i, h, s, l). (i, sound i s, (h, subst (λ (a : ℕ). Leads a (get_or program i 0) b) (zero-add i) l)))
-      (spread_from b program 0 (after k).standing 0 t)
+      (spread_from b program 0 (after program k).standing 0 t)
 
-  next_has : (k a b : ℕ) → has (after k).standing a ≡ true → PossibleNext program a b → has (next k) b ≡ true
+  next_has : (k a b : ℕ) → has (after program k).standing a ≡ true → PossibleNext program a b → has (next program k) b ≡ true
   unfolding next
   next_has k a b t n =
-      spread_has b program 0 (after k).standing 0 (a, n.0, t, subst (λ (i : ℕ). Leads i (get_or program a 0) b) (sym (zero-add a)) n.1)
+      spread_has b program 0 (after program k).standing 0 (a, n.0, t, subst (λ (i : ℕ). Leads i (get_or program a 0) b) (sym (zero-add a)) n.1)
 
-  pub under_way_standing : {k a : ℕ} → UnderWay program k a → has (after k).standing a ≡ true
+  pub under_way_standing : {k a : ℕ} → UnderWay program k a → has (after program k).standing a ≡ true
   unfolding after
   under_way_standing begun = refl
   under_way_standing (on {k} {a} {b} u n away) =
-      subst (λ (set : ℕ). has set b ≡ true) (sym (standing_next k)) (without_fetch (next k) b away (next_has k a b (under_way_standing u) n))
+      subst (λ (set : ℕ). has set b ≡ true) (sym (standing_next program k)) (without_fetch (next program k) b away (next_has k a b (under_way_standing u) n))
 
-  pub standing_under_way : (k a : ℕ) → has (after k).standing a ≡ true → UnderWay program k a
+  pub standing_under_way : (k a : ℕ) → has (after program k).standing a ≡ true → UnderWay program k a
   unfolding after
   standing_under_way zero zero t = begun
   standing_under_way zero (suc a) t = absurd (false≢true (sym (has_none a) ∙ t))
   standing_under_way (suc k) zero t =
-      absurd (false≢true (sym (even_low (next k)) ∙ subst (λ (set : ℕ). has set 0 ≡ true) (standing_next k) t))
+      absurd (false≢true (sym (even_low (next program k)) ∙ subst (λ (set : ℕ). has set 0 ≡ true) (standing_next program k) t))
   standing_under_way (suc k) (suc a) t =
-      let there = sym (even_high (next k) a) ∙ subst (λ (set : ℕ). has set (suc a) ≡ true) (standing_next k) t in
+      let there = sym (even_high (next program k) a) ∙ subst (λ (set : ℕ). has set (suc a) ≡ true) (standing_next program k) t in
       let (c, u, n) = next_stepped k (suc a) (standing_under_way k) there in
       on u n (λ e. absurd (omega (arith, e)))
 
   -- ---- the words on which shorter walks stood
-  in_seen : (k a : ℕ) → has (after (suc k)).seen a ≡ (has (after k).seen a || has (after k).standing a)
-  in_seen k a = ap (λ (set : ℕ). has set a) (seen_more k) ∙ has_union (after k).seen (after k).standing a
+  in_seen : (k a : ℕ) → has (after program (suc k)).seen a ≡ (has (after program k).seen a || has (after program k).standing a)
+  in_seen k a = ap (λ (set : ℕ). has set a) (seen_more program k) ∙ has_union (after program k).seen (after program k).standing a
 
-  pub seen_stood : (k a : ℕ) → has (after k).seen a ≡ true → (j : ℕ) × (j < k) × UnderWay program j a
+  pub seen_stood : (k a : ℕ) → has (after program k).seen a ≡ true → (j : ℕ) × (j < k) × UnderWay program j a
   unfolding after
   seen_stood zero a t = absurd (false≢true (sym (has_none a) ∙ t))
   seen_stood (suc k) a t =
       ⊎_elim (λ s. let (j, h, u) = seen_stood k a s in (j, omega (arith, h), u)) (λ s. (k, omega arith, standing_under_way k a s))
-      (one_of (has (after k).seen a) (has (after k).standing a) (sym (in_seen k a) ∙ t))
+      (one_of (has (after program k).seen a) (has (after program k).standing a) (sym (in_seen k a) ∙ t))
 
-  pub stood_seen : (k j a : ℕ) → j < k → UnderWay program j a → has (after k).seen a ≡ true
+  pub stood_seen : (k j a : ℕ) → j < k → UnderWay program j a → has (after program k).seen a ≡ true
   stood_seen zero j a h u = absurd (not-suc-le-zero h)
   stood_seen (suc k) j a h u =
       in_seen k a
       ∙ ⊎_elim
-      (λ e. ap (λ (b : Bool). has (after k).seen a || b) (under_way_standing (subst (λ (i : ℕ). UnderWay program i a) e u)) ∙ or_right (has (after k).seen a))
+      (λ e. ap (λ (b : Bool). has (after program k).seen a || b) (under_way_standing (subst (λ (i : ℕ). UnderWay program i a) e u)) ∙ or_right (has (after program k).seen a))
       (λ l. rw (stood_seen k j a l u)) (eq-or-lt_of_le (le_of_suc-le-suc h))
 
   -- ---- the longest walk that is back
-  back_walk : (k : ℕ) → in_lowest (next k) ≡ true → Walk program (suc k)
+  back_walk : (k : ℕ) → in_lowest (next program k) ≡ true → Walk program (suc k)
   back_walk k t = let (a, u, n) = next_stepped k 0 (standing_under_way k) t in returned u n
 
-  walk_back : (k : ℕ) → Walk program (suc k) → in_lowest (next k) ≡ true
+  walk_back : (k : ℕ) → Walk program (suc k) → in_lowest (next program k) ≡ true
   walk_back k (returned u n) = next_has k _ 0 (under_way_standing u) n
 
   abbrev latest : ℕ → Bool → ℕ
-  latest k back = (cond back (microcycles (suc k)) (after k).longest).count
+  latest k back = (cond back (microcycles (suc k)) (after program k).longest).count
 
-  pub longest_walk : (k : ℕ) → ((after k).longest.count ≡ 0) ⊎ Walk program (after k).longest.count
+  pub longest_walk : (k : ℕ) → ((after program k).longest.count ≡ 0) ⊎ Walk program (after program k).longest.count
   unfolding after
   longest_walk zero = inl refl
   longest_walk (suc k) =
-      subst (λ (m : Microcycles). (m.count ≡ 0) ⊎ Walk program m.count) (sym (longest_next k))
-      (by_return (in_lowest (next k)) (back_walk k) (longest_walk k))
+      subst (λ (m : Microcycles). (m.count ≡ 0) ⊎ Walk program m.count) (sym (longest_next program k))
+      (by_return (in_lowest (next program k)) (back_walk k) (longest_walk k))
     where
-      by_return : (b : Bool) → (b ≡ true → Walk program (suc k)) → ((after k).longest.count ≡ 0) ⊎ Walk program (after k).longest.count
+      by_return : (b : Bool) → (b ≡ true → Walk program (suc k)) → ((after program k).longest.count ≡ 0) ⊎ Walk program (after program k).longest.count
           → (latest k b ≡ 0) ⊎ Walk program (latest k b)
       by_return true w rest = inr (w refl)
       by_return false w rest = rest
 
-  pub none_longer : (k n : ℕ) → n ≤ k → Walk program n → n ≤ (after k).longest.count
+  pub none_longer : (k n : ℕ) → n ≤ k → Walk program n → n ≤ (after program k).longest.count
   unfolding after
   none_longer zero n h w = h
   none_longer (suc k) n h w =
-      subst (λ (m : Microcycles). n ≤ m.count) (sym (longest_next k)) (by_return (in_lowest (next k)) refl (λ l. none_longer k n l w))
+      subst (λ (m : Microcycles). n ≤ m.count) (sym (longest_next program k)) (by_return (in_lowest (next program k)) refl (λ l. none_longer k n l w))
     where
-      by_return : (b : Bool) → in_lowest (next k) ≡ b → (n ≤ k → n ≤ (after k).longest.count) → n ≤ latest k b
+      by_return : (b : Bool) → in_lowest (next program k) ≡ b → (n ≤ k → n ≤ (after program k).longest.count) → n ≤ latest k b
       by_return true e rest = h
       by_return false e rest =
           ⊎_elim (λ q. absurd (false≢true (sym e ∙ walk_back k (subst (Walk program) q w)))) (λ l. rest (le_of_suc-le-suc l)) (eq-or-lt_of_le h)
 
   -- ---- sets of 64 bits
-  next_lt : (k : ℕ) → next k < 2 ^ 64
+  next_lt : (k : ℕ) → next program k < 2 ^ 64
   unfolding next
-  next_lt k = spread_lt program 0 (after k).standing 0 (omega arith)
+  next_lt k = spread_lt program 0 (after program k).standing 0 (omega arith)
 
-  pub standing_lt : (k : ℕ) → (after k).standing < 2 ^ 64
+  pub standing_lt : (k : ℕ) → (after program k).standing < 2 ^ 64
   unfolding after
   standing_lt zero = omega arith
-  standing_lt (suc k) = let same = standing_next k in let h = next_lt k in omega (arith, same, h)
+  standing_lt (suc k) = let same = standing_next program k in let h = next_lt k in omega (arith, same, h)
 
-  pub seen_lt : (k : ℕ) → (after k).seen < 2 ^ 64
+  pub seen_lt : (k : ℕ) → (after program k).seen < 2 ^ 64
   unfolding after
   seen_lt zero = omega arith
   seen_lt (suc k) =
-      subst (λ (set : ℕ). set < 2 ^ 64) (sym (seen_more k)) (union_lt (after k).seen (after k).standing (seen_lt k) (standing_lt k))
+      subst (λ (set : ℕ). set < 2 ^ 64) (sym (seen_more program k)) (union_lt (after program k).seen (after program k).standing (seen_lt k) (standing_lt k))
 
   -- ---- the survey stops early where no walk is under way: nothing more would be found
   abbrev none_under_way : ℕ → ℕ → Microcycles → Survey
@@ -177,26 +157,26 @@ module _ (program : List ℕ) where
       subst (λ (k : ℕ). advance program done (none_under_way k s.seen s.longest) ≡ none_under_way k s.seen s.longest) (sym e)
       (nothing_new done s.seen s.longest)
 
-  stays : (n k : ℕ) → (after k).standing ≡ 0 → after (n + k) ≡ after k
+  stays : (n k : ℕ) → (after program k).standing ≡ 0 → after program (n + k) ≡ after program k
   unfolding after
-  stays zero k e = ap after (zero-add k)
+  stays zero k e = ap (after program) (zero-add k)
   stays (suc n) k e =
-      ap after (suc-add n k) ∙ ap (advance program (microcycles (suc (n + k)))) (stays n k e) ∙ at_rest (microcycles (suc (n + k))) (after k) e
+      ap (after program) (suc-add n k) ∙ ap (advance program (microcycles (suc (n + k)))) (stays n k e) ∙ at_rest (microcycles (suc (n + k))) (after program k) e
 
-  one_more : (n k : ℕ) → survey program n (k + 1) (advance program (microcycles (k + 1)) (after k)) ≡ survey program n (suc k) (after (suc k))
+  one_more : (n k : ℕ) → survey program n (k + 1) (advance program (microcycles (k + 1)) (after program k)) ≡ survey program n (suc k) (after program (suc k))
   unfolding after
-  one_more n k = ap (λ (j : ℕ). survey program n j (advance program (microcycles j) (after k))) (add-one k)
+  one_more n k = ap (λ (j : ℕ). survey program n j (advance program (microcycles j) (after program k))) (add-one k)
 
-  survey_is : (n k : ℕ) → survey program n k (after k) ≡ after (n + k)
+  survey_is : (n k : ℕ) → survey program n k (after program k) ≡ after program (n + k)
   unfolding survey
-  survey_is zero k = ap after (sym (zero-add k))
-  survey_is (suc n) k = by_test (eqb (after k).standing 0) (eqb-true (after k).standing 0) (one_more n k ∙ survey_is n (suc k) ∙ ap after (add-suc n k ∙ sym (suc-add n k)))
+  survey_is zero k = ap (after program) (sym (zero-add k))
+  survey_is (suc n) k = by_test (eqb (after program k).standing 0) (eqb-true (after program k).standing 0) (one_more n k ∙ survey_is n (suc k) ∙ ap (after program) (add-suc n k ∙ sym (suc-add n k)))
     where
-      by_test : (b : Bool) → (b ≡ true → (after k).standing ≡ 0) → survey program n (k + 1) (advance program (microcycles (k + 1)) (after k)) ≡ after (suc n + k)
-          → cond b (after k) (survey program n (k + 1) (advance program (microcycles (k + 1)) (after k))) ≡ after (suc n + k)
+      by_test : (b : Bool) → (b ≡ true → (after program k).standing ≡ 0) → survey program n (k + 1) (advance program (microcycles (k + 1)) (after program k)) ≡ after program (suc n + k)
+          → cond b (after program k) (survey program n (k + 1) (advance program (microcycles (k + 1)) (after program k))) ≡ after program (suc n + k)
       by_test true f rest = sym (stays (suc n) k (f refl))
       by_test false f rest = rest
 
-  pub surveyed_is : surveyed program ≡ after rounds
+  pub surveyed_is : surveyed program ≡ after program rounds
   unfolding after
   surveyed_is = survey_is rounds 0

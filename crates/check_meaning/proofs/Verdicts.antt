@@ -25,7 +25,8 @@ use Rattle.check_meaning.specs.Meaning.Meant.{illegal, leaves, not_back, accepte
 use Rattle.check_meaning.specs.Survey.{lowest_leaving, surveyed, judged, verdict}
 use Rattle.check_meaning.proofs.Sets.{has, has_none, lowest_is_in, lowest_is_least}
 use Rattle.check_meaning.proofs.PossibleNexts.{passes_leads, leads_passes}
-use Rattle.check_meaning.proofs.Standing.{after, standing_under_way, under_way_standing, seen_stood, stood_seen, longest_walk, none_longer, standing_lt, surveyed_is}
+use Rattle.check_meaning.proofs.OneMicrocycle.{after}
+use Rattle.check_meaning.proofs.Standing.{standing_under_way, under_way_standing, seen_stood, stood_seen, longest_walk, none_longer, standing_lt, surveyed_is}
 use Rattle.check_meaning.proofs.ReachedEarly.{reached_early}
 use Rattle.check_meaning.proofs.LowestLeaving.{lowest_leaves, none_lower}
 use Rattle.check_meaning.proofs.WalksGoOn.{passed_through, comes_back}

@@ -17,6 +17,7 @@ use Rattle.macro_meaning.specs.Instructions.{call, rtn, effect}
 use Rattle.macro_meaning.specs.Step.{Macro}
 use Rattle.macro_meaning.specs.Programs.{next, instruction, holds, Legal, Does, writable, target, moved_to, Apart}
 use Rattle.macro_meaning.proofs.StepsTaken.{does, written, holds_it, has_words}
+use Rattle.macro_meaning.proofs.WhatIsLeft.{pushed, return_address}
 
 -- RTN takes 1 off its register, under the register rule, and goes to the address that stands there.
 pub rtn_pops : (s : Macro) (request : Bool) → Does 11 s request
@@ -27,7 +28,7 @@ pub rtn_pops : (s : Macro) (request : Bool) → Does 11 s request
       machine = record {
         registers = update_reg s.machine.psw.sm stack s.machine.registers popped;
         psw = s.machine.psw;
-        pc = fetch s.memory popped;
+        pc = return_address s;
         ivec = s.machine.ivec;
       };
       memory = s.memory;
@@ -44,10 +45,6 @@ module _ (s : Macro) (request : Bool) (calls : Does 1 s request) where
   abbrev top : ℕ
   top = holds s stack
 
-  -- what it pushes
-  abbrev pushed : ℕ
-  pushed = inc s.machine.pc
-
   abbrev called : Macro
   called =
       record {
@@ -57,7 +54,7 @@ module _ (s : Macro) (request : Bool) (calls : Does 1 s request) where
           pc = target s;
           ivec = s.machine.ivec;
         };
-        memory = store s.memory top pushed;
+        memory = store s.memory top (pushed s);
       }
 
   after_call : next s request ≡ called
@@ -74,8 +71,8 @@ module _ (s : Macro) (request : Bool) (calls : Does 1 s request) where
     pointer_after =
         ap (λ (t : Macro). holds t stack) after_call ∙ holds_it s legal (instruction s) (inc top) free
 
-    word_after : fetch (next s request).memory top ≡ pushed
-    word_after = ap (λ (t : Macro). fetch t.memory top) after_call ∙ read_back s.memory top pushed (has_words s legal)
+    word_after : fetch (next s request).memory top ≡ pushed s
+    word_after = ap (λ (t : Macro). fetch t.memory top) after_call ∙ read_back s.memory top (pushed s) (has_words s legal)
 
     -- However much was done in between: let RTN with the same stack register, still writable, find that register and the stack word as
     -- CALL left them. Then it goes behind the CALL, puts the register back, and changes nothing else.
@@ -115,7 +112,7 @@ module _ (s : Macro) (request : Bool) (calls : Does 1 s request) where
     module _ (later : Bool) (undisturbed : (later && s.machine.psw.ie) ≡ false) (far : Apart s.memory (target s) top)
         (there : opcode (fetch s.memory (target s)) ≡ 11) (same : dest (fetch s.memory (target s)) ≡ stack) where
       found : instruction (next s request) ≡ fetch s.memory (target s)
-      found = ap instruction after_call ∙ kept_elsewhere s.memory top (target s) pushed far
+      found = ap instruction after_call ∙ kept_elsewhere s.memory top (target s) (pushed s) far
 
       returns_there : Does 11 (next s request) later
       returns_there = record { undisturbed = rw after_call undisturbed; chosen = ap opcode found ∙ there }

@@ -7,11 +7,10 @@
 use Prim.Native.Nat.{ℕ}
 use mathlib.Core.Path.{◌≡◌, refl, sym, ap, ◌∙◌}
 use mathlib.Core.Bool.{Bool, true, false}
-use lib.Bits.{bit_and}
 use lib.ListN.{set}
 use lib.Seq.{get_or-set_same, set-set, set-get_or}
 use native.Mathlib.Omega.{arith}
-use Rattle.words.specs.Fields.{opcode, imm}
+use Rattle.words.specs.Fields.{opcode}
 use Rattle.words.specs.Registers.{ssp_reg, is_sup_reg, update_reg}
 use Rattle.words.proofs.Cases.{and_right}
 use Rattle.alu.proofs.Sums.{off_again}
@@ -20,12 +19,9 @@ use Rattle.blocks.proofs.MemoryWords.{read_back, kept_elsewhere}
 use Rattle.macro_meaning.specs.Effects.{inc, mode}
 use Rattle.macro_meaning.specs.Instructions.{interrupted, rti, effect}
 use Rattle.macro_meaning.specs.Step.{Macro}
-use Rattle.macro_meaning.specs.Programs.{next, instruction, holds, Legal, Does, Apart}
+use Rattle.macro_meaning.specs.Programs.{next, instruction, Legal, Does, Apart}
 use Rattle.macro_meaning.proofs.StepsTaken.{does, interrupts, has_words}
-
--- SSP, the address of the stack word
-abbrev pub stack_top : Macro → ℕ
-stack_top s = holds s ssp_reg
+use Rattle.macro_meaning.proofs.WhatIsLeft.{stack_top, entered, int_entry, interrupt_entry, put_off}
 
 -- a state back at an address, in user mode with interrupts on, with the pushed address in the stack word and the rest as it was
 abbrev pub back_at : ℕ → Macro → Macro
@@ -42,32 +38,13 @@ back_at pc s =
 
 -- ---- the way in
 
--- a state as a handler finds it: supervisor mode, interrupts off, the address to go back to in the stack word, and SSP moved on
-abbrev pub entered : Macro → ℕ → ℕ → Macro
-entered s entry back =
-    record {
-      machine = record {
-        registers = set s.machine.registers ssp_reg (inc (stack_top s));
-        psw = mode s.machine.psw true false;
-        pc = entry;
-        ivec = s.machine.ivec;
-      };
-      memory = store s.memory (stack_top s) back;
-    }
-
 -- INT enters the handler that its immediate names, in either mode
-abbrev pub int_entry : Macro → ℕ
-int_entry s = bit_and 255 (imm (instruction s))
-
 pub int_enters : (s : Macro) (request : Bool) → Does 2 s request → next s request ≡ entered s (int_entry s) (inc s.machine.pc)
 unfolding effect interrupted update_reg is_sup_reg
 int_enters s request d = does s request d
 
 -- a request that is up, with ie set, enters the handler that the vector names; the instruction at PC waits
-abbrev pub interrupt_entry : Macro → ℕ
-interrupt_entry s = bit_and 255 s.machine.ivec
-
-pub interrupt_enters : (s : Macro) → s.machine.psw.ie ≡ true → next s true ≡ entered s (interrupt_entry s) s.machine.pc
+pub interrupt_enters : (s : Macro) → s.machine.psw.ie ≡ true → next s true ≡ entered s (interrupt_entry s) (put_off s)
 unfolding effect interrupted update_reg is_sup_reg
 interrupt_enters s on = interrupts s on
 

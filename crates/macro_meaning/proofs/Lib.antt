@@ -7,6 +7,7 @@ pub mod RefusedRuns
 -- what laws about programs start from
 pub mod StepsTaken
 pub mod SumSteps
+pub mod WhatIsLeft
 pub mod EveryInstruction
 pub mod ExampleStates
 -- laws of the instruction set, for those who program it (docs/INSTRUCTIONS.md)

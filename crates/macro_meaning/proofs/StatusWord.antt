@@ -13,6 +13,7 @@ use Rattle.macro_meaning.specs.Instructions.{gpsw, ppsw, effect}
 use Rattle.macro_meaning.specs.Step.{Macro}
 use Rattle.macro_meaning.specs.Programs.{next, instruction, holds, Legal, Does, writable, clear_psw}
 use Rattle.macro_meaning.proofs.StepsTaken.{does, written, holds_it, supervisor_writes}
+use Rattle.macro_meaning.proofs.WhatIsLeft.{psw_given}
 use Rattle.macro_meaning.proofs.RegisterZero.{register_0_kept}
 
 -- GPSW puts the PSW's number into its register, under the register rule
@@ -20,7 +21,7 @@ after_gpsw : (s : Macro) (request : Bool) → Does 4 s request
     → next s request
     ≡ record {
       machine = record {
-        registers = update_reg s.machine.psw.sm (dest (instruction s)) s.machine.registers (mk_psw s.machine.psw);
+        registers = update_reg s.machine.psw.sm (dest (instruction s)) s.machine.registers (psw_given s);
         psw = s.machine.psw;
         pc = inc s.machine.pc;
         ivec = s.machine.ivec;
