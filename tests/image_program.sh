@@ -1,11 +1,15 @@
 # The program image: Intel HEX on standard input into 16 words of zero, and the image of them, or the refusal, on standard output. It takes
 # 65536 bytes at most.
 #
-# SCHOONLEECH_IMAGE  a program to test instead of target/bin/image
+# SCHOONLEECH_IMAGE  a program to test instead of crates/image/out/image, which rt ci leaves there, or else rt run
 . tests/host/counting.bash
 . tests/host/emulator.bash
-image=${SCHOONLEECH_IMAGE:-target/bin/image}
-[ -x "$image" ] || { echo "image: there is no $image; run rt check first"; failed=1; finish; }
+image=${SCHOONLEECH_IMAGE:-crates/image/out/image}
+prove_and_run() {
+    (cd crates/image && rt run) </dev/null
+}
+[ -x "$image" ] || [ -n "${SCHOONLEECH_IMAGE:-}" ] || alone prove_and_run >"$work/log" 2>&1 || cat "$work/log"
+[ -x "$image" ] || { echo "image: there is no $image"; failed=1; finish; }
 
 # The lines of an image of zeros, the scope's record, and the first line of an image with it.
 first=:1000000000000000000000000000000000000000F0
