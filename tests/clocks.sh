@@ -1,21 +1,12 @@
 # A count on one clock can't be given for a count on the other: each exchange below is refused by the compiler, for its types, before
 # anything is proved.
 . tests/host/counting.bash
-. tests/host/alone.bash
-
-build() { # CRATE ; a library of the repository, with those below it
-    (cd "crates/$1" && rt lib)
-}
-
-# A copy of the crates with the libraries that were built, and with nothing else that rt made.
-copy_crates() { # FOLDER
-    mkdir -p "$1" && tar -cf - --exclude='crates/*/out/incremental' crates crates.txt | tar -xf - -C "$1"
-}
+. tests/host/copying.bash
 
 refused_for_its_types() { # CRATE FILE OLD NEW [OLD NEW]..
     local crate=$1 file=crates/$1/$2 copy=$work/copy
     shift 2
-    alone build "$crate" || return 1
+    build_crate "$crate" || return 1
     rm -rf "$copy"
     copy_crates "$copy" || return 1
     while [ $# -gt 0 ]; do
