@@ -102,6 +102,16 @@ input "14: something after the end record" "$example\n$end\n\n" "refused 14 line
 input "14: an empty input" "" "refused 14 line 0"
 one "14: /dev/null" prints_for_file /dev/null "refused 14 line 0"
 input "15: a record that starts before the end of the last" "$example\n$example\n$end\n" "refused 15 line 2"
+one "an input that can't be read is at its end" prints_for_file / "refused 14 line 0"
+
+written_nowhere() { # PLACE
+    (
+        [ "$1" = closed ] && exec >&- || exec >"$1"
+        $emulator "$image"
+    ) <"$work/image" 2>"$work/complaints" && [ ! -s "$work/complaints" ]
+}
+one "an output that can't be written leaves the status 0, and nothing is said" written_nowhere /dev/full
+one ".. nor where it is closed" written_nowhere closed
 
 long_text 65536 >"$work/long"
 one "a text has 65536 bytes" has_bytes 65536 "$work/long"
