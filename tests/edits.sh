@@ -4,8 +4,8 @@
 # refused with that text in its first error.
 #
 # A goal is named by the conditions that lead to it, so an edit of a condition can leave a goal open to which the proof file has no answer.
-# Where rt found no values at which an open goal is false, the crate is checked with the edit, and the first error of all that the check
-# says decides: there one about a name comes before the goal.
+# Where rt names such a goal and found no values at which it is false, the crate is checked with the edit, and the first error of all that
+# the check says decides: there one about a name comes before the goal.
 . tests/host/counting.bash
 . tests/host/copying.bash
 
@@ -48,7 +48,9 @@ for edit in crates/*/must-fail/*.edit; do
     name="rt: must-fail $crate/$(basename "$edit"): "
     said=$(grep -F -m 1 -- "$name" "$work/tried") said=${said#"$name"}
     first=${said#refused, as it must be: }
-    if [[ $first == "note: "*"it is not proved"* && $first != *"; the facts known "* ]]; then first=$(first_of_all "$edit" "$crate"); fi
+    if [[ $first == "note: "*"it is not proved"* && $first != *"(\`returns\`)"* && $first != *"; the facts known "* ]]; then
+        first=$(first_of_all "$edit" "$crate")
+    fi
     if [ "$first" = "$said" ] || [ -z "$first" ]; then
         fail "$edit is not refused with an error: ${said:-rt must-fail does not name it}"
     elif grep -qE "$other" <<<"$first"; then

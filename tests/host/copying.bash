@@ -1,13 +1,15 @@
-# To try a change of a crate in a copy. `build_crate` has rt build a library of the repository with those below it, and `copy_crates` copies
-# the crates with the libraries that were built, and with nothing else that rt made.
+# To try a change of a crate in a copy. `build_crate` has rt prove the crate, and build it and those below it where they are libraries, and
+# `copy_crates` copies the crates with the libraries that were built, and with nothing else that rt made.
 . tests/host/alone.bash
 
-rt_lib() { # CRATE
-    (cd "crates/$1" && rt lib)
+prove_and_build() { # CRATE
+    local verb=lib
+    [ ! -f "crates/$1/src/main.rt" ] || verb=check
+    (cd "crates/$1" && rt $verb)
 }
 
 build_crate() { # CRATE
-    alone rt_lib "$1"
+    alone prove_and_build "$1"
 }
 
 copy_crates() { # FOLDER
