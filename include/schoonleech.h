@@ -5,7 +5,7 @@
 
    A caller lends places: a microprogram, memory, registers, a block of state words, a board, text. A call reads them, changes some of them
    where they stand and returns an avm_answer. It keeps nothing for the next call. avm_published alone is lent nothing and returns a
-   microword. All of them are in one archive, libschoonleech.a, which `rt staticlib schoonleech` writes to target/staticlib.
+   microword. All of them are in one archive, libschoonleech.a, which `rt lib` writes to out/ where it is called in crates/schoonleech.
 
    - A slice is a pointer and a number of elements. A slice of length 0 may come with NULL.
    - A block with a fixed size (state, latches, mir, phase, board) has no length. It may not be NULL.

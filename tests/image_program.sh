@@ -1,11 +1,15 @@
 # The program image: Intel HEX on standard input into 16 words of zero, and the image of them, or the refusal, on standard output. It takes
 # 65536 bytes at most.
 #
-# SCHOONLEECH_IMAGE  a program to test instead of target/bin/image
+# SCHOONLEECH_IMAGE  a program to test instead of crates/image/out/image, which rt ci leaves there, or else rt run
 . tests/host/counting.bash
 . tests/host/emulator.bash
-image=${SCHOONLEECH_IMAGE:-target/bin/image}
-[ -x "$image" ] || { echo "image: there is no $image; run rt check first"; failed=1; finish; }
+image=${SCHOONLEECH_IMAGE:-crates/image/out/image}
+prove_and_run() {
+    (cd crates/image && rt run) </dev/null
+}
+[ -x "$image" ] || [ -n "${SCHOONLEECH_IMAGE:-}" ] || alone prove_and_run >"$work/log" 2>&1 || cat "$work/log"
+[ -x "$image" ] || { echo "image: there is no $image"; failed=1; finish; }
 
 # The lines of an image of zeros, the scope's record, and the first line of an image with it.
 first=:1000000000000000000000000000000000000000F0
@@ -98,6 +102,16 @@ input "14: something after the end record" "$example\n$end\n\n" "refused 14 line
 input "14: an empty input" "" "refused 14 line 0"
 one "14: /dev/null" prints_for_file /dev/null "refused 14 line 0"
 input "15: a record that starts before the end of the last" "$example\n$example\n$end\n" "refused 15 line 2"
+one "an input that can't be read is at its end" prints_for_file / "refused 14 line 0"
+
+written_nowhere() { # PLACE
+    (
+        [ "$1" = closed ] && exec >&- || exec >"$1"
+        $emulator "$image"
+    ) <"$work/image" 2>"$work/complaints" && [ ! -s "$work/complaints" ]
+}
+one "an output that can't be written leaves the status 0, and nothing is said" written_nowhere /dev/full
+one ".. nor where it is closed" written_nowhere closed
 
 long_text 65536 >"$work/long"
 one "a text has 65536 bytes" has_bytes 65536 "$work/long"

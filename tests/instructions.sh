@@ -100,7 +100,7 @@ check_synthesized() {
     same "synthesized instructions" "$(rows "$page" "## Synthesized instructions" | cut -d '|' -f 1,2)" \
         "$(rows "$source" "### Synthesized instructions (table 5.6, p. 75)" | cut -d '|' -f 1,2)"
     while IFS='|' read -r wanted _ holds law _; do
-        same "$wanted holds" "$holds" "$([[ $law == *-fails\` ]] && echo no || echo yes)"
+        same "$wanted holds" "$holds" "$([[ $law == *_fails\` ]] && echo no || echo yes)"
     done < <(rows "$page" "## Synthesized instructions")
 }
 

@@ -1,5 +1,5 @@
 # Sets `library`, the archive of the C calls (include/schoonleech.h) that a script links. `prove_library` proves it and writes it where it
-# is not there, or a crate or the kit changed after it was begun: several scripts need it, and one proof serves all.
+# is not there, or a crate or the kit changed since it was begun: several scripts need it, and one proof serves all.
 #
 # SCHOONLEECH_LIB  an archive to use instead of the proved one; rt is then not run
 #
@@ -7,38 +7,27 @@
 
 . tests/host/alone.bash
 
-library=${SCHOONLEECH_LIB:-target/staticlib/libschoonleech.a}
+library=${SCHOONLEECH_LIB:-crates/schoonleech/out/libschoonleech.a}
 
-# What is another file where the kit is another one: rt's name on the PATH, which may be a link, the file it leads to, and the kit's
-# identity, found as rt itself finds it.
-kit_files() {
-    local named real identity
-    named=$(command -v rt)
-    real=$(readlink -f "$named")
-    identity=${RATTLE_HOME:-$(dirname "$(dirname "$real")")}/KIT-ID
-    printf '%s\n' "$named" "$real"
-    [ ! -f "$identity" ] || printf '%s\n' "$identity"
+# A sum of all that the archive is made from: the kit, and each file of the crates but what rt made of them, crates/NAME/out.
+sum_of_sources() {
+    {
+        rt version && readlink -f "$(command -v rt)"
+        find crates crates.txt -regex 'crates/[^/]*/out' -prune -o -type f -print0 | LC_ALL=C sort -z | xargs -0 sha256sum
+    } | sha256sum
 }
 
-# A crate changed when it was written. A kit's files keep the time at which it was packed, which says nothing about when it came here: of
-# them the time of change counts (the c of -newercm), which is that of their installation.
-is_fresh() { # ARCHIVE
-    local newer kit
-    [ -f "$1" ] || return 1
-    mapfile -t kit < <(kit_files)
-    newer=$(find crates crates.txt -newer "$1" -print -quit && find "${kit[@]}" -newercm "$1" -print -quit) || return 1
-    [ -z "$newer" ]
+# Beside an archive stands the sum of what it was begun with, so that a change during the proof makes it stale.
+is_fresh() { # SUM
+    [ -f "$library" ] && [ "$(cat "$library.sources" 2>/dev/null)" = "$1" ]
 }
 
-# An archive is as old as its beginning, so that a change during the proof makes it stale.
 prove_if_stale() {
-    local began status
-    is_fresh "$library" && return 0
-    began=$(mktemp)
-    rt staticlib schoonleech && touch -r "$began" "$library"
-    status=$?
-    rm -f "$began"
-    return $status
+    local sum
+    sum=$(sum_of_sources)
+    is_fresh "$sum" && return
+    rm -f "$library" "$library.sources"
+    (cd crates/schoonleech && rt lib) && [ -f "$library" ] && echo "$sum" >"$library.sources"
 }
 
 prove_library() {
