@@ -2,33 +2,41 @@
 // output; or one line with the number and the line of the refusal.
 #![tactic(auto)]
 
-ghost use Rattle.std.specs.Prelude.{◌≡◌, ◌≤◌, length, IfOk};
+ghost use Rattle.std.specs.Prelude.{◌≡◌, ◌≤◌, length};
 ghost use Rattle.image.specs.Image.{image_answer, image_room};
 
 use answers::End;
 use std::io;
 use std::io::{Print, Read};
 
-fn main(rt: HostRuntime) -> io::Result<()> {
+fn main(rt: HostRuntime) {
     // one byte more than the longest input, so that a longer one is seen
     let mut text = [0u8; 65537];
-    let read = fill(&mut rt.reader(), &mut text)?;
-    show(&rt, &text[..read])
+    let read = fill(&mut rt.reader(), &mut text);
+    // the status is 0 whatever comes of it, as it is of a refusal
+    match show(&rt, &text[..read]) {
+        Ok(()) => {}
+        Err(_) => {}
+    }
 }
 
-// Reads until the input ends or no room is left, and says how many bytes were read.
-fn fill(from: &mut impl Read, text: &mut [u8]) -> io::Result<usize>
-    ensures { IfOk result (λ read. read ≤ length text.new) }
+// Reads until the input ends, a read fails or no room is left, and says how many bytes were read.
+fn fill(from: &mut impl Read, text: &mut [u8]) -> usize
+    ensures { result ≤ length text.new }
 {
     let mut filled: usize = 0;
     while filled < text.len() {
-        let read = from.read(&mut text[filled..])?;
-        if read == 0 {
-            return Ok(filled);
+        match from.read(&mut text[filled..]) {
+            Ok(read) => {
+                if read == 0 {
+                    return filled;
+                }
+                filled += read;
+            }
+            Err(_) => return filled,
         }
-        filled += read;
     }
-    Ok(filled)
+    filled
 }
 
 fn show(out: &impl Print, text: &[u8]) -> io::Result<()> {
