@@ -1,14 +1,16 @@
--- The first bad place of a list: it is bad, every place before it is good, and it is the length exactly where all are good. Then the
--- three turns of a loop that looks for it, at the list from its i-th element on.
+-- The first bad place of a list: it is bad, every place before it is good, and it is the length exactly where all are good.
 use Prim.Native.Nat.{ℕ, zero, suc, ◌+◌, ◌<◌, ◌≤◌}
-use native.Mathlib.Nat.{not-suc-le-zero, le_of_suc-le-suc, add-zero}
-use native.Mathlib.Numerals.{add-one}
+use native.Mathlib.Nat.{not-suc-le-zero, le_of_suc-le-suc}
+use native.Mathlib.Numerals.{one-add}
 use native.Mathlib.Omega.{arith}
-use mathlib.Core.Path.{◌≡◌, refl, ap}
+use mathlib.Core.Path.{◌≡◌, refl, sym, ap, ◌∙◌}
 use mathlib.Core.Bool.{Bool, true, false, cond}
 use mathlib.Core.List.{List, [], ◌∷◌, ◌++◌}
-use lib.ListN.{length, get_or, take, drop}
-use lib.Seq.{drop-cons, drop-length}
+use lib.ListN.{length, get_or, take}
+use lib.Dec.{ltb}
+use Rattle.std.specs.Prelude.{Some, None}
+use Rattle.std.specs.List.{position}
+use Rattle.std.proofs.lemmas.List.Recursion.{is_position_or_len}
 use Rattle.answers.specs.Places.{first_place}
 
 pub at_most : (bad : ℕ → Bool) (xs : List ℕ) → first_place bad xs ≤ length xs
@@ -41,18 +43,30 @@ good_before bad (x ∷ xs) k h = go (bad x) refl k (good_before bad xs) h
     go false e zero rest h = e
     go false e (suc j) rest h = rest j (le_of_suc-le-suc h)
 
-pub bad_here : (bad : ℕ → Bool) (xs : List ℕ) (i : ℕ) → i < length xs → bad (get_or xs i 0) ≡ true → i + first_place bad (drop i xs) ≡ i
+-- the library's search finds that place, where there is one
+pub position_is : (bad : ℕ → Bool) (xs : List ℕ) → position bad xs ≡ cond (ltb (first_place bad xs) (length xs)) (Some (first_place bad xs)) None
 unfolding first_place
-bad_here bad xs i h e = rw (drop-cons xs i 0 h, e, add-zero)
+position_is bad xs = sym (rw (is_position_or_len (first_place bad) bad refl (λ x rest. first_turn x rest) xs) refl)
+  where
+    first_turn : (x : ℕ) (rest : List ℕ) → first_place bad (x ∷ rest) ≡ cond (bad x) 0 (1 + first_place bad rest)
+    first_turn x rest = rw one-add refl
 
-pub passed : (bad : ℕ → Bool) (xs : List ℕ) (i : ℕ) → i < length xs → bad (get_or xs i 0) ≡ false
-    → i + first_place bad (drop i xs) ≡ i + 1 + first_place bad (drop (i + 1) xs)
-unfolding first_place
-passed bad xs i h e = rw (drop-cons xs i 0 h, e, add-one i) (omega arith)
+-- .. so what it finds is that place, and it is below the length
+pub found : (bad : ℕ → Bool) (xs : List ℕ) {place : ℕ} → position bad xs ≡ Some place
+    → (first_place bad xs ≡ place) × (ltb (first_place bad xs) (length xs) ≡ true)
+found bad xs e = go (ltb (first_place bad xs) (length xs)) (sym (position_is bad xs) ∙ e)
+  where
+    go : (b : Bool) {place : ℕ} → cond b (Some (first_place bad xs)) None ≡ Some place → (first_place bad xs ≡ place) × (b ≡ true)
+    go true e = (cc, refl)
+    go false e = absurd cc
 
-pub none_left : (bad : ℕ → Bool) (xs : List ℕ) (i : ℕ) → i ≡ length xs → i + first_place bad (drop i xs) ≡ i
-unfolding first_place
-none_left bad xs i h = rw (h, drop-length, add-zero)
+-- .. and where it finds none, none is below the length
+pub not_found : (bad : ℕ → Bool) (xs : List ℕ) → position bad xs ≡ None → ltb (first_place bad xs) (length xs) ≡ false
+not_found bad xs e = go (ltb (first_place bad xs) (length xs)) (sym (position_is bad xs) ∙ e)
+  where
+    go : (b : Bool) → cond b (Some (first_place bad xs)) None ≡ None → b ≡ false
+    go true e = absurd cc
+    go false e = refl
 
 -- ---- lists without a bad place
 pub none_in_join : (bad : ℕ → Bool) (xs ys : List ℕ) → first_place bad xs ≡ length xs → first_place bad ys ≡ length ys

@@ -1,9 +1,9 @@
-// How the engine's calls answer: the counts of the two clocks, the end of a call with the number that
+// How the engine's calls answer: the counts of the two clocks, why a call was refused with the number that
 // the grader shows, and the tests that several levels share.
 #![tactic(auto)]
 
 ghost use Rattle.std.specs.Prelude.{◌≡◌};
-ghost use Rattle.answers.specs.Ends.{is_done, numbered, shown};
+ghost use Rattle.answers.specs.Ends.{numbered, refusal_shown, shown};
 
 pub mod tests;
 
@@ -14,6 +14,10 @@ pub struct Microcycles {
     pub count: u64,
 }
 
+impl Microcycles {
+    pub const NONE: Microcycles = Microcycles { count: 0 };
+}
+
 // A count on the instruction clock.
 #[repr(C)]
 #[derive(Clone, Copy)]
@@ -21,12 +25,16 @@ pub struct Steps {
     pub count: u64,
 }
 
-// How a call ended: done, or refused for the reason named, with the word, place, line or bytes that
-// go with it.
-#[derive(Clone, Copy)]
-pub enum End {
-    Done,
+impl Steps {
+    pub const NONE: Steps = Steps { count: 0 };
+}
+
+// Why a call was refused, with the word, place, line or bytes that go with it. A call that is done
+// answers Ok.
+#[derive(Clone, Copy, Debug, PartialEq, Eq)]
+pub enum Refusal {
     MemoryLength,
+    RegisterCount,
     RegisterZero,
     ProgramLength,
     Microword(usize),
@@ -56,39 +64,44 @@ fn with(number: u64, at: usize) -> Numbered
     ensures { result ≡ numbered number at }
 {
     Numbered {
-        number: number,
+        number,
         at: at as u64,
     }
 }
 
-pub fn shown(end: End) -> Numbered
-    ensures { result ≡ shown end }
-{
-    match end {
-        End::Done => with(0, 0),
-        End::MemoryLength => with(1, 0),
-        End::RegisterZero => with(3, 0),
-        End::ProgramLength => with(4, 0),
-        End::Microword(word) => with(5, word),
-        End::Outside => with(6, 0),
-        End::Request(place) => with(7, place),
-        End::NextAddress => with(8, 0),
-        End::TextLength => with(9, 0),
-        End::LineForm(line) => with(10, line),
-        End::LineSum(line) => with(11, line),
-        End::RecordType(line) => with(12, line),
-        End::Placement(line) => with(13, line),
-        End::EndRecord(line) => with(14, line),
-        End::RecordOrder(line) => with(15, line),
-        End::Room(bytes) => with(16, bytes),
-        End::WalkLeaves(word) => with(17, word),
-        End::WalkNotBack(word) => with(18, word),
+impl From<Refusal> for Numbered {
+    ghost from_gives = { λ refusal answer. answer ≡ refusal_shown refusal };
+
+    fn from(refusal: Refusal) -> Numbered {
+        match refusal {
+            Refusal::MemoryLength => with(1, 0),
+            Refusal::RegisterCount => with(2, 0),
+            Refusal::RegisterZero => with(3, 0),
+            Refusal::ProgramLength => with(4, 0),
+            Refusal::Microword(word) => with(5, word),
+            Refusal::Outside => with(6, 0),
+            Refusal::Request(place) => with(7, place),
+            Refusal::NextAddress => with(8, 0),
+            Refusal::TextLength => with(9, 0),
+            Refusal::LineForm(line) => with(10, line),
+            Refusal::LineSum(line) => with(11, line),
+            Refusal::RecordType(line) => with(12, line),
+            Refusal::Placement(line) => with(13, line),
+            Refusal::EndRecord(line) => with(14, line),
+            Refusal::RecordOrder(line) => with(15, line),
+            Refusal::Room(bytes) => with(16, bytes),
+            Refusal::WalkLeaves(word) => with(17, word),
+            Refusal::WalkNotBack(word) => with(18, word),
+        }
     }
 }
 
-pub fn done(end: End) -> bool
-    ensures { result ≡ is_done end }
+// Done is 0.
+pub fn shown(end: Result<(), Refusal>) -> Numbered
+    ensures { result ≡ shown end }
 {
-    let numbered = shown(end);
-    numbered.number == 0
+    match end {
+        Ok(()) => with(0, 0),
+        Err(refusal) => Numbered::from(refusal),
+    }
 }

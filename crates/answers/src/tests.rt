@@ -1,34 +1,28 @@
 // The tests that several levels share.
 ghost use Rattle.std.specs.Prelude.{◌≡◌};
-ghost use Rattle.answers.specs.Places.{above, first_place};
+ghost use Rattle.std.specs.List.{position};
+ghost use Rattle.answers.specs.Places.{above};
 ghost use Rattle.answers.specs.Tests.{lent_test};
 
-use crate::End;
+use crate::Refusal;
 
 // Memory's length and register 0: 1 and 3, which every call of the engine tests first.
-pub fn lent(words: usize, zero: u32) -> End
+#[tactic(auto, unfolding(crate::specs::Tests::lent_test))]
+pub fn lent(words: usize, zero: u32) -> Result<(), Refusal>
     ensures { result ≡ lent_test words zero }
 {
-    let legal = words::lengths::legal(words);
-    if !legal {
-        return End::MemoryLength;
+    if !words::lengths::legal(words) {
+        return Err(Refusal::MemoryLength);
     }
     if zero != 0 {
-        return End::RegisterZero;
+        return Err(Refusal::RegisterZero);
     }
-    End::Done
+    Ok(())
 }
 
-// The first byte above `most`; the length where there is none.
-pub fn first_above(most: u8, bytes: &[u8]) -> usize
-    ensures { result ≡ first_place (above most) bytes.now }
+// The place of the first byte above `most`, where there is one.
+pub fn first_above(most: u8, bytes: &[u8]) -> Option<usize>
+    ensures { result ≡ position (above most) bytes.now }
 {
-    let mut at: usize = 0;
-    while at < bytes.len() {
-        if most < bytes[at] {
-            return at;
-        }
-        at += 1;
-    }
-    at
+    bytes.iter().position(|byte| most < *byte)
 }

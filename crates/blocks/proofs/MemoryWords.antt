@@ -7,7 +7,7 @@ use native.Mathlib.Omega.{arith}
 use lib.ListN.{length, get_or, length-set}
 use lib.Seq.{get_or-set_same, get_or-set_other}
 use Rattle.blocks.specs.declared.memory.Store.{Store}
-use Rattle.blocks.specs.declared.memory.Store.TheVariants.{Nothing, Word}
+use Rattle.std.specs.Prelude.{Option, Some, None}
 use Rattle.blocks.specs.Memory.{address, fetch, store, applied}
 
 pub nothing_fetched : (mem : List ℕ) (a : ℕ) → length mem ≡ 0 → fetch mem a ≡ 0
@@ -15,16 +15,16 @@ unfolding fetch
 nothing_fetched [] a none = refl
 nothing_fetched (x ∷ xs) a none = omega arith
 
-pub nothing_stored : (st : Store) (mem : List ℕ) → length mem ≡ 0 → applied st mem ≡ mem
+pub nothing_stored : (st : Option Store) (mem : List ℕ) → length mem ≡ 0 → applied st mem ≡ mem
 unfolding store
-nothing_stored Nothing mem none = refl
-nothing_stored (Word a word) [] none = refl
-nothing_stored (Word a word) (x ∷ xs) none = absurd (omega arith)
+nothing_stored None mem none = refl
+nothing_stored (Some st) [] none = refl
+nothing_stored (Some st) (x ∷ xs) none = absurd (omega arith)
 
-pub length_kept : (st : Store) (mem : List ℕ) → length (applied st mem) ≡ length mem
+pub length_kept : (st : Option Store) (mem : List ℕ) → length (applied st mem) ≡ length mem
 unfolding store
-length_kept Nothing mem = refl
-length_kept (Word a word) mem = length-set mem (address mem a) word
+length_kept None mem = refl
+length_kept (Some st) mem = length-set mem (address mem st.address) st.word
 
 pub read_alike : (mem : List ℕ) (a b word : ℕ) → 0 < length mem → address mem b ≡ address mem a → fetch (store mem a word) b ≡ word
 unfolding fetch store

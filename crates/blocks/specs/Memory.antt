@@ -1,8 +1,7 @@
 -- Memory as a list of words: `address`, `fetch` and `store` (section 5.2.1, pp. 87-91). An address counts modulo the length (the scope). A
 -- microcycle's store is a value of its own, applied in one place. Assumes nothing.
-use Rattle.std.specs.Prelude.{ℕ, ◌%◌, List, length, get_or, set}
+use Rattle.std.specs.Prelude.{ℕ, ◌%◌, List, length, get_or, set, Option, Some, None}
 use Rattle.blocks.specs.declared.memory.Store.{Store}
-use Rattle.blocks.specs.declared.memory.Store.TheVariants.{Nothing, Word}
 
 abbrev pub address : List ℕ → ℕ → ℕ
 address mem a = a % length mem
@@ -13,6 +12,10 @@ fetch mem a = get_or mem (address mem a) 0
 unfoldable pub store : List ℕ → ℕ → ℕ → List ℕ
 store mem a word = set mem (address mem a) word
 
-abbrev pub applied : Store → List ℕ → List ℕ
-applied Nothing mem = mem
-applied (Word a word) mem = store mem a word
+-- a word at an address; where nothing is stored, None stands
+abbrev pub storing : ℕ → ℕ → Option Store
+storing a word = Some (record { address = a; word = word })
+
+abbrev pub applied : Option Store → List ℕ → List ℕ
+applied None mem = mem
+applied (Some st) mem = store mem st.address st.word

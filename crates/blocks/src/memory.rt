@@ -2,11 +2,11 @@
 ghost use Rattle.std.specs.Prelude.{◌≡◌};
 ghost use Rattle.blocks.specs.Memory.{fetch, applied};
 
-// What a microcycle stores: nothing, or a word at an address.
+// What a microcycle stores, where it stores: a word at an address.
 #[derive(Clone, Copy)]
-pub enum Store {
-    Nothing,
-    Word(u32, u32),
+pub struct Store {
+    pub address: u32,
+    pub word: u32,
 }
 
 pub fn load(memory: &[u32], address: u32) -> u32
@@ -20,14 +20,14 @@ pub fn load(memory: &[u32], address: u32) -> u32
 }
 
 // The one place where memory is written.
-pub fn apply(memory: &mut [u32], store: Store)
+pub fn apply(memory: &mut [u32], store: Option<Store>)
     ensures { memory.new ≡ applied store memory.old }
 {
     let words = memory.len();
     if words == 0 {
         return;
     }
-    if let Store::Word(address, word) = store {
-        memory[address as usize % words] = word;
+    if let Some(store) = store {
+        memory[store.address as usize % words] = store.word;
     }
 }

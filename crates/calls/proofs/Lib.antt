@@ -1,3 +1,2 @@
 -- Theorems over the definitions of specs/, a file each; the proofs of the functions stand in their folders.
-pub mod ElementwiseCopy
 pub mod Fitting

@@ -1,7 +1,9 @@
 -- Registers that a C call lends as a list. Only here can their number be wrong, so only these calls answer 2, between 1 and 3. Where it is
 -- wrong zeros are copied in and nothing is copied out; a call that passed the tests copies all 32 both ways. Assumes nothing.
-use Rattle.std.specs.Prelude.{ℕ, cond, List, eqb, length, replicate}
+use Rattle.std.specs.Prelude.{ℕ, cond, List, eqb, length, replicate, Ok, Err}
 use Rattle.words.specs.Lengths.{legal_length}
+use Rattle.answers.specs.declared.Refusal.TheVariants.{MemoryLength, RegisterCount}
+use Rattle.answers.specs.Ends.{End}
 use Rattle.calls.specs.declared.Answer.{Answer}
 use Rattle.calls.specs.Answers.{refused}
 
@@ -9,9 +11,9 @@ use Rattle.calls.specs.Answers.{refused}
 abbrev pub register_count : ℕ
 register_count = 32
 
--- 1, then 2: the number of the first test that fails, 0 where none does
-unfoldable pub first_test : ℕ → ℕ → ℕ
-first_test words count = cond (legal_length words) (cond (eqb count register_count) 0 2) 1
+-- 1, then 2
+unfoldable pub first_test : ℕ → ℕ → End
+first_test words count = cond (legal_length words) (cond (eqb count register_count) (Ok tt) (Err RegisterCount)) (Err MemoryLength)
 
 -- lent registers as a value
 unfoldable pub registers_in : List ℕ → List ℕ
@@ -35,5 +37,7 @@ found answer mem registers state = record { answer = answer; memory = mem; regis
 -- 1 and 2, with everything as lent; then the rest
 abbrev pub tested_first : List ℕ → List ℕ → List ℕ → Found → Found
 tested_first mem registers state rest =
-    let number = first_test (length mem) (length registers) in
-    cond (eqb number 0) rest (found (refused number) mem registers state)
+    elim (first_test (length mem) (length registers)) [
+      | Ok _ ↦ rest
+      | Err refusal ↦ found (refused refusal) mem registers state
+    ]

@@ -2,11 +2,11 @@
 // all others, and the way in and out. Every function is total; specs/ says what each answers.
 #![tactic(auto)]
 
-ghost use Rattle.std.specs.Prelude.{◌≡◌, length};
+ghost use Rattle.std.specs.Prelude.{◌≡◌};
 ghost use Rattle.calls.specs.Answers.{refused, answered};
 ghost use Rattle.calls.specs.Lending.{first_test, registers_in, registers_out};
 
-use answers::{End, Microcycles, Steps};
+use answers::{Microcycles, Refusal, Steps};
 
 // avm_answer of the header.
 #[repr(C)]
@@ -18,87 +18,60 @@ pub struct Answer {
     pub steps: Steps,
 }
 
-// A refusal that has nothing with it.
-pub fn refuse(number: u64) -> Answer
-    ensures { result ≡ refused number }
-{
-    let microcycles = Microcycles { count: 0 };
-    let steps = Steps { count: 0 };
-    Answer {
-        number: number,
-        at: 0,
-        microcycles: microcycles,
-        steps: steps,
-    }
-}
-
 // An end by its number, with the two clocks.
-pub fn answer_of(end: End, microcycles: Microcycles, steps: Steps) -> Answer
+pub fn answer_of(end: Result<(), Refusal>, microcycles: Microcycles, steps: Steps) -> Answer
     ensures { result ≡ answered end microcycles steps }
 {
     let shown = answers::shown(end);
     let number = shown.number;
     let at = shown.at;
     Answer {
-        number: number,
-        at: at,
-        microcycles: microcycles,
-        steps: steps,
+        number,
+        at,
+        microcycles,
+        steps,
     }
 }
 
-// The number of the first test that fails, 0 where none does.
-pub fn test(words: usize, count: usize) -> u64
+// A refusal, before anything was done.
+pub fn refuse(refusal: Refusal) -> Answer
+    ensures { result ≡ refused refusal }
+{
+    answer_of(Err(refusal), Microcycles::NONE, Steps::NONE)
+}
+
+// The first test that fails, where one does.
+#[tactic(auto, unfolding(crate::specs::Lending::first_test))]
+pub fn test(words: usize, count: usize) -> Result<(), Refusal>
     ensures { result ≡ first_test words count }
 {
     if !words::lengths::legal(words) {
-        return 1;
+        return Err(Refusal::MemoryLength);
     }
     if count != 32 {
-        return 2;
+        return Err(Refusal::RegisterCount);
     }
-    0
+    Ok(())
 }
 
-fn copy_from(from: &[u32]) -> [u32; 32]
-    requires { length from.now ≡ 32 }
-    ensures { result ≡ from.now }
+// The registers as a value.
+#[tactic(auto, unfolding(crate::specs::Lending::registers_in))]
+pub fn registers_in(from: &[u32]) -> [u32; 32]
+    ensures { result ≡ registers_in from.now }
 {
     let mut registers = [0u32; 32];
-    let mut k: usize = 0;
-    while k < 32 {
-        registers[k] = from[k];
-        k += 1;
+    if from.len() == 32 {
+        registers.copy_from_slice(from);
     }
     registers
 }
 
-fn copy_to(to: &mut [u32], registers: [u32; 32])
-    requires { length to.old ≡ 32 }
-    ensures { to.new ≡ registers }
-{
-    let mut k: usize = 0;
-    while k < 32 {
-        to[k] = registers[k];
-        k += 1;
-    }
-}
-
-// The registers as a value.
-pub fn registers_in(from: &[u32]) -> [u32; 32]
-    ensures { result ≡ registers_in from.now }
-{
-    if from.len() != 32 {
-        return [0u32; 32];
-    }
-    copy_from(from)
-}
-
 // The registers back to where they were lent.
+#[tactic(auto, unfolding(crate::specs::Lending::registers_out))]
 pub fn registers_out(to: &mut [u32], registers: [u32; 32])
     ensures { to.new ≡ registers_out registers to.old }
 {
     if to.len() == 32 {
-        copy_to(to, registers);
+        to.copy_from_slice(&registers);
     }
 }

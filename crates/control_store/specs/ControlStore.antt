@@ -1,9 +1,9 @@
 -- A lent control store: the word at an address, and the test of all (the scope's numbers 4 and 5). Its length is above the fetch address
 -- and at most what a 6-bit counter can name (section 5.2.2, pp. 103-110); of its words the lowest that is not legal counts. Assumes nothing.
-use Rattle.std.specs.Prelude.{ℕ, ◌^◌, Bool, cond, not, ◌&&◌, List, ltb, leb, length, get_or}
-use Rattle.answers.specs.declared.End.{End}
-use Rattle.answers.specs.declared.End.TheVariants.{Done, ProgramLength, Microword}
-use Rattle.answers.specs.Ends.{is_done}
+use Rattle.std.specs.Prelude.{ℕ, ◌^◌, Bool, cond, not, ◌&&◌, List, ltb, leb, length, get_or, Ok, Err}
+use Rattle.std.specs.Result.{result_and}
+use Rattle.answers.specs.declared.Refusal.TheVariants.{ProgramLength, Microword}
+use Rattle.answers.specs.Ends.{End}
 use Rattle.answers.specs.Places.{first_place}
 use Rattle.answers.specs.Tests.{lent_test}
 use Rattle.control_store.specs.Codes.{legal_microword}
@@ -29,11 +29,9 @@ lowest_illegal program = first_place illegal program
 unfoldable pub store_test : List ℕ → End
 store_test program =
     cond (legal_store_length (length program))
-    (cond (ltb (lowest_illegal program) (length program)) (Microword (lowest_illegal program)) Done)
-    ProgramLength
+    (cond (ltb (lowest_illegal program) (length program)) (Err (Microword (lowest_illegal program))) (Ok tt))
+    (Err ProgramLength)
 
 -- 1, 3, 4, 5: memory's length, register 0, the microprogram, which every call that runs microwords tests first
 unfoldable pub machine_test : ℕ → ℕ → List ℕ → End
-machine_test words register_0 program =
-    let lent = lent_test words register_0 in
-    cond (is_done lent) (store_test program) lent
+machine_test words register_0 program = result_and (lent_test words register_0) (store_test program)

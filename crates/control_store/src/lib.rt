@@ -4,11 +4,11 @@
 #![tactic(auto)]
 
 ghost use Rattle.std.specs.Prelude.{◌≡◌};
-ghost use Rattle.answers.specs.Places.{first_place};
+ghost use Rattle.std.specs.List.{position};
 ghost use Rattle.control_store.specs.ControlStore.{word_at, illegal, store_test, machine_test};
 
 use crate::microword::legal;
-use answers::End;
+use answers::Refusal;
 
 pub mod microword;
 pub mod sequencer;
@@ -24,44 +24,33 @@ pub fn word_at(program: &[u64], mpc: u32) -> u64
     if at < program.len() { program[at] } else { 0 }
 }
 
-// The lowest word that is not legal; the length where all are.
-fn lowest_illegal(program: &[u64]) -> usize
-    ensures { result ≡ first_place illegal program.now }
+// The lowest word that is not legal, where there is one.
+fn lowest_illegal(program: &[u64]) -> Option<usize>
+    ensures { result ≡ position illegal program.now }
 {
-    let mut at: usize = 0;
-    while at < program.len() {
-        if !legal(program[at]) {
-            return at;
-        }
-        at += 1;
-    }
-    at
+    program.iter().position(|word| !legal(*word))
 }
 
 // Its length first, then its words.
-pub fn tested(program: &[u64]) -> End
+pub fn tested(program: &[u64]) -> Result<(), Refusal>
     ensures { result ≡ store_test program.now }
 {
-    let words = program.len();
-    let fits = (0 < words) & (words <= MOST_MICROWORDS);
+    let fits = (0 < program.len()) & (program.len() <= MOST_MICROWORDS);
     if !fits {
-        return End::ProgramLength;
+        return Err(Refusal::ProgramLength);
     }
-    let word = lowest_illegal(program);
-    if word < words {
-        return End::Microword(word);
+    match lowest_illegal(program) {
+        Some(word) => Err(Refusal::Microword(word)),
+        None => Ok(()),
     }
-    End::Done
 }
 
 // Memory's length, register 0 and the microprogram: 1, 3, 4 and 5, which every call that runs
 // microwords tests first.
-pub fn machine_tested(words: usize, zero: u32, program: &[u64]) -> End
+#[tactic(auto, unfolding(crate::specs::ControlStore::machine_test))]
+pub fn machine_tested(words: usize, zero: u32, program: &[u64]) -> Result<(), Refusal>
     ensures { result ≡ machine_test words zero program.now }
 {
-    let lent = answers::tests::lent(words, zero);
-    if !answers::done(lent) {
-        return lent;
-    }
+    answers::tests::lent(words, zero)?;
     tested(program)
 }

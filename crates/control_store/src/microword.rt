@@ -32,34 +32,36 @@ pub struct Microword {
     pub addr: u32,
 }
 
-pub fn fields(w: u64) -> Microword
-    ensures { result ≡ fields w }
-{
-    Microword {
-        amux: w / 0x80_0000_0000 % 2 == 1,
-        shft: (w / 0x20_0000_0000 % 4) as u32,
-        alu: (w / 0x2_0000_0000 % 16) as u32,
-        mar: w / 0x1_0000_0000 % 2 == 1,
-        mbr: w / 0x8000_0000 % 2 == 1,
-        pmux: w / 0x4000_0000 % 2 == 1,
-        srca: (w / 0x800_0000 % 8) as u32,
-        srcb: (w / 0x200_0000 % 4) as u32,
-        trgt: (w / 0x40_0000 % 8) as u32,
-        ssm: w / 0x20_0000 % 2 == 1,
-        csm: w / 0x10_0000 % 2 == 1,
-        sie: w / 0x8_0000 % 2 == 1,
-        cie: w / 0x4_0000 % 2 == 1,
-        ldc: w / 0x2_0000 % 2 == 1,
-        ldv: w / 0x1_0000 % 2 == 1,
-        ldn: w / 0x8000 % 2 == 1,
-        ldz: w / 0x4000 % 2 == 1,
-        csrc: w / 0x2000 % 2 == 1,
-        iack: w / 0x1000 % 2 == 1,
-        ftch: w / 0x800 % 2 == 1,
-        rd: w / 0x400 % 2 == 1,
-        wr: w / 0x200 % 2 == 1,
-        cond: (w / 0x40 % 8) as u32,
-        addr: (w % 0x40) as u32,
+impl From<u64> for Microword {
+    ghost from_gives = { λ w word. word ≡ fields w };
+
+    fn from(w: u64) -> Microword {
+        Microword {
+            amux: w / 0x80_0000_0000 % 2 == 1,
+            shft: (w / 0x20_0000_0000 % 4) as u32,
+            alu: (w / 0x2_0000_0000 % 16) as u32,
+            mar: w / 0x1_0000_0000 % 2 == 1,
+            mbr: w / 0x8000_0000 % 2 == 1,
+            pmux: w / 0x4000_0000 % 2 == 1,
+            srca: (w / 0x800_0000 % 8) as u32,
+            srcb: (w / 0x200_0000 % 4) as u32,
+            trgt: (w / 0x40_0000 % 8) as u32,
+            ssm: w / 0x20_0000 % 2 == 1,
+            csm: w / 0x10_0000 % 2 == 1,
+            sie: w / 0x8_0000 % 2 == 1,
+            cie: w / 0x4_0000 % 2 == 1,
+            ldc: w / 0x2_0000 % 2 == 1,
+            ldv: w / 0x1_0000 % 2 == 1,
+            ldn: w / 0x8000 % 2 == 1,
+            ldz: w / 0x4000 % 2 == 1,
+            csrc: w / 0x2000 % 2 == 1,
+            iack: w / 0x1000 % 2 == 1,
+            ftch: w / 0x800 % 2 == 1,
+            rd: w / 0x400 % 2 == 1,
+            wr: w / 0x200 % 2 == 1,
+            cond: (w / 0x40 % 8) as u32,
+            addr: (w % 0x40) as u32,
+        }
     }
 }
 
@@ -67,7 +69,7 @@ pub fn fields(w: u64) -> Microword
 pub fn legal(w: u64) -> bool
     ensures { result ≡ legal_microword w }
 {
-    let m = fields(w);
+    let m = Microword::from(w);
     let alu = m.alu;
     let srca = m.srca;
     let srcb = m.srcb;

@@ -16,7 +16,8 @@ use Rattle.status.specs.declared.psw.Psw.{Psw}
 use Rattle.status.specs.Psw.{clocked, next_psw}
 use Rattle.status.specs.Jump.{jump_cond}
 use Rattle.control_store.specs.Codes.{to_reg_file, to_ssp, to_psw, to_pc, to_pcj}
-use Rattle.blocks.specs.declared.memory.Store.TheVariants.{Nothing, Word}
+use Rattle.std.specs.Prelude.{None}
+use Rattle.blocks.specs.Memory.{storing}
 use Rattle.blocks.specs.Memory.{fetch}
 use Rattle.datapath.specs.Results.{quiet, target_register, written_register, new_psw, new_reg, new_pc, new_mbr, new_store}
 
@@ -119,10 +120,10 @@ module _ (mem : List ℕ) (m : Microword) (mar result mbr : ℕ) where
   no_read r = rw r
 
 module _ (m : Microword) (mar mbr : ℕ) where
-  pub written : m.wr ≡ true → new_store m mar mbr ≡ Word mar mbr
+  pub written : m.wr ≡ true → new_store m mar mbr ≡ storing mar mbr
   unfolding new_store
   written w = rw w
 
-  pub not_written : m.wr ≡ false → new_store m mar mbr ≡ Nothing
+  pub not_written : m.wr ≡ false → new_store m mar mbr ≡ None
   unfolding new_store
   not_written w = rw w

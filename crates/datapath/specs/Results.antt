@@ -1,6 +1,6 @@
 -- Where the result goes (phases three and four, from p. 110, figures 5.9 and 5.10, pp. 113-114): each part of the state after a microcycle, from its parts before
 -- it. The old PSW decides: for the register rule, the jump and the next address. Assumes nothing.
-use Rattle.std.specs.Prelude.{ℕ, Bool, true, cond, not, ◌&&◌, ◌||◌, List, eqb}
+use Rattle.std.specs.Prelude.{ℕ, Bool, true, cond, not, ◌&&◌, ◌||◌, List, eqb, Option, None}
 use Rattle.words.specs.Fields.{opcode}
 use Rattle.words.specs.Registers.{update_reg, is_sup_reg, ssp_reg}
 use Rattle.alu.specs.declared.Flags.{Flags}
@@ -13,9 +13,8 @@ use Rattle.control_store.specs.declared.microword.Microword.{Microword}
 use Rattle.control_store.specs.Codes.{to_reg_file, to_ssp, to_psw, to_ir, to_pc, to_pcj}
 use Rattle.control_store.specs.Sequencer.{mpc_unit}
 use Rattle.blocks.specs.declared.memory.Store.{Store}
-use Rattle.blocks.specs.declared.memory.Store.TheVariants.{Nothing, Word}
 use Rattle.datapath.specs.declared.results.SystemRegisters.{SystemRegisters}
-use Rattle.blocks.specs.Memory.{fetch}
+use Rattle.blocks.specs.Memory.{fetch, storing}
 
 -- the lines into the PSW; its clock line is high in phase four
 abbrev pub psw_lines : Microword → Flags → PswLines
@@ -82,5 +81,5 @@ new_system mem m dest psw result old =
     }
 
 -- what is stored: the old MBR at MAR
-unfoldable pub new_store : Microword → ℕ → ℕ → Store
-new_store m mar mbr = cond m.wr (Word mar mbr) Nothing
+unfoldable pub new_store : Microword → ℕ → ℕ → Option Store
+new_store m mar mbr = cond m.wr (storing mar mbr) None

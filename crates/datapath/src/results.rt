@@ -68,15 +68,14 @@ fn mbr(memory: &[u32], word: Microword, mar: u32, res: u32, mbr: u32) -> u32
 }
 
 // What goes to memory: the old MBR at MAR.
-pub fn store(word: Microword, mar: u32, mbr: u32) -> Store
+#[tactic(auto, unfolding(crate::specs::Results::new_store))]
+pub fn store(word: Microword, mar: u32, mbr: u32) -> Option<Store>
     ensures { result ≡ new_store word mar mbr }
 {
-    let wr = word.wr;
-    if wr {
-        Store::Word(mar, mbr)
-    } else {
-        Store::Nothing
-    }
+    word.wr.then_some(Store {
+        address: mar,
+        word: mbr,
+    })
 }
 
 // The system registers after phase four.

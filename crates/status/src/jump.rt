@@ -7,10 +7,7 @@ use crate::psw::Psw;
 pub fn decide(field: u32, psw: Psw) -> bool
     ensures { result ≡ jump_cond field psw }
 {
-    let c = psw.c;
-    let v = psw.v;
-    let n = psw.n;
-    let z = psw.z;
+    let Psw { v, n, c, z, .. } = psw;
     match field {
         0 => c,
         1 => !c,

@@ -33,33 +33,33 @@ pub struct PswLines {
     pub flags: Flags,
 }
 
-pub fn to_word(psw: Psw) -> u32
-    ensures { result ≡ mk_psw psw }
-{
-    let sm = psw.sm;
-    let ie = psw.ie;
-    let v = psw.v;
-    let n = psw.n;
-    let c = psw.c;
-    let z = psw.z;
-    (sm as u32) * 32
-        + (ie as u32) * 16
-        + (v as u32) * 8
-        + (n as u32) * 4
-        + (c as u32) * 2
-        + (z as u32)
+impl From<Psw> for u32 {
+    ghost from_gives = { λ psw w. w ≡ mk_psw psw };
+
+    fn from(psw: Psw) -> u32 {
+        let Psw { sm, ie, v, n, c, z } = psw;
+        (sm as u32) * 32
+            + (ie as u32) * 16
+            + (v as u32) * 8
+            + (n as u32) * 4
+            + (c as u32) * 2
+            + (z as u32)
+    }
 }
 
-pub fn from_word(w: u32) -> Psw
-    ensures { result ≡ get_psw w }
-{
-    Psw {
-        sm: w / 32 % 2 == 1,
-        ie: w / 16 % 2 == 1,
-        v: w / 8 % 2 == 1,
-        n: w / 4 % 2 == 1,
-        c: w / 2 % 2 == 1,
-        z: w % 2 == 1,
+// The word's other bits are dropped.
+impl From<u32> for Psw {
+    ghost from_gives = { λ w psw. psw ≡ get_psw w };
+
+    fn from(w: u32) -> Psw {
+        Psw {
+            sm: w / 32 % 2 == 1,
+            ie: w / 16 % 2 == 1,
+            v: w / 8 % 2 == 1,
+            n: w / 4 % 2 == 1,
+            c: w / 2 % 2 == 1,
+            z: w % 2 == 1,
+        }
     }
 }
 
@@ -98,7 +98,7 @@ pub fn next(lines: PswLines, word: u32, psw: Psw) -> Psw
     let sm = psw.sm;
     let clock = lines.clock;
     if set & sm {
-        return from_word(word);
+        return Psw::from(word);
     }
     if clock {
         return clocked(lines, psw);

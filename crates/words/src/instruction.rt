@@ -11,14 +11,16 @@ pub struct Instruction {
     pub imm: u32,
 }
 
-pub fn decode(w: u32) -> Instruction
-    ensures { result ≡ decoded w }
-{
-    Instruction {
-        opcode: w / 0x400_0000 % 32,
-        dest: w / 0x20_0000 % 32,
-        srca: w / 0x1_0000 % 32,
-        srcb: w / 0x800 % 32,
-        imm: w % 0x1_0000,
+impl From<u32> for Instruction {
+    ghost from_gives = { λ w instruction. instruction ≡ decoded w };
+
+    fn from(w: u32) -> Instruction {
+        Instruction {
+            opcode: w / 0x400_0000 % 32,
+            dest: w / 0x20_0000 % 32,
+            srca: w / 0x1_0000 % 32,
+            srcb: w / 0x800 % 32,
+            imm: w % 0x1_0000,
+        }
     }
 }

@@ -5,6 +5,7 @@ use native.Mathlib.Nat.{mod-lt}
 use native.Mathlib.Omega.{arith}
 use mathlib.Core.Path.{sym, ap}
 use lib.ListN.{length}
+use Rattle.std.specs.Prelude.{Option}
 use Rattle.blocks.specs.declared.memory.Store.{Store}
 use Rattle.blocks.specs.Memory.{store, applied}
 use Rattle.blocks.proofs.MemoryWords.{nothing_stored}
@@ -13,17 +14,17 @@ use Rattle.blocks.proofs.memory.apply.Goals as goal
 pub returns-then-words-eq0 : goal.returns-then-words-eq0
 returns-then-words-eq0 c = let args = c.args in sym (nothing_stored args.store args.memory.now c.if-words-eq0.true)
 
-pub offset_bounds-memory-address : goal.offset_bounds-memory-address
-offset_bounds-memory-address c =
+pub offset_bounds-memory-store : goal.offset_bounds-memory-store
+offset_bounds-memory-store c =
     let some : 0 < length c.args.memory.now = omega (arith, c.if-words-eq0.false) in
-    scaled_Fits _ _ 4 (mod-lt c.in-Word.address some) c.well_formed.0.1
+    scaled_Fits _ _ 4 (mod-lt c.in-Some.store.address some) c.well_formed.0.1
 
-pub bounds-memory-address : goal.bounds-memory-address
-bounds-memory-address c =
+pub bounds-memory-store : goal.bounds-memory-store
+bounds-memory-store c =
     let some : 0 < length c.args.memory.now = omega (arith, c.if-words-eq0.false) in
-    mod-lt c.in-Word.address some
+    mod-lt c.in-Some.store.address some
 
-pub returns-in-Word : goal.returns-in-Word
+pub returns-in-Some : goal.returns-in-Some
 unfolding store
-returns-in-Word c =
-    sym (ap (λ (st : Store). applied st c.args.memory.now) c.in-Word.is)
+returns-in-Some c =
+    sym (ap (λ (st : Option Store). applied st c.args.memory.now) c.in-Some.is)

@@ -4,4 +4,4 @@ use Rattle.control_store.proofs.microword.legal.Goals as goal
 
 pub returns : goal.returns
 unfolding legal_microword
-returns c = rw c.fields-m.ensures
+returns c = rw c.from-m.ensures

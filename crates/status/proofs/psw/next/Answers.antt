@@ -6,7 +6,7 @@ use Rattle.status.proofs.psw.next.Goals as goal
 pub returns-then-set-sm : goal.returns-then-set-sm
 returns-then-set-sm c =
     let args = c.args in
-    c.from_word.ensures ∙ sym (whole_word args.lines args.word args.psw c.if-set-sm.true)
+    c.from.ensures ∙ sym (whole_word args.lines args.word args.psw c.if-set-sm.true)
 
 pub returns-then-clock : goal.returns-then-clock
 returns-then-clock c =

@@ -2,7 +2,7 @@
 use native.Mathlib.Nat.{div-one}
 use Rattle.words.specs.Words.{bit}
 use Rattle.status.specs.Psw.{get_psw}
-use Rattle.status.proofs.psw.from_word.Goals as goal
+use Rattle.status.proofs.psw.PswFromU32.from.Goals as goal
 
 pub returns : goal.returns
 unfolding get_psw bit

@@ -2,7 +2,7 @@
 use native.Mathlib.Nat.{div-one}
 use Rattle.words.specs.Words.{field}
 use Rattle.words.specs.Fields.{opcode, dest, srca, srcb, imm}
-use Rattle.words.proofs.instruction.decode.Goals as goal
+use Rattle.words.proofs.instruction.InstructionFromU32.from.Goals as goal
 
 pub returns : goal.returns
 unfolding opcode dest srca srcb imm field
