@@ -4,8 +4,9 @@ use Prim.Native.Nat.{ℕ}
 use mathlib.Core.Bool.{Bool, true, false, cond}
 use mathlib.Core.List.{List, [], ◌∷◌}
 use lib.ListN.{length}
-use Rattle.answers.specs.declared.End.{End}
-use Rattle.answers.specs.declared.End.TheVariants.{Done, NextAddress}
+use Rattle.answers.specs.Ends.{End}
+use Rattle.std.specs.Prelude.{Ok, Err}
+use Rattle.answers.specs.declared.Refusal.TheVariants.{NextAddress}
 use Rattle.answers.specs.Ends.{is_done}
 use Rattle.calls.specs.Answers.{answered}
 use Rattle.micro_meaning.specs.declared.MicroMachine.{MicroMachine}
@@ -25,20 +26,20 @@ abbrev pub refused_with : End → MicroState → List ℕ → BoardFound
 refused_with end board mem = ended end 0 0 board mem
 
 abbrev pub DoneAnyhow : (BoardFound → Type 0) → Type 0
-DoneAnyhow P = (microcycles steps : ℕ) (board : MicroState) (mem : List ℕ) → P (ended Done microcycles steps board mem)
+DoneAnyhow P = (microcycles steps : ℕ) (board : MicroState) (mem : List ℕ) → P (ended (Ok tt) microcycles steps board mem)
 
 module _ (board : MicroState) (program mem : List ℕ) (request : ℕ) where
   abbrev pub micro_tested : End
   micro_tested = micro.micro_test (length mem) program board (request ∷ [])
 
   pub microcycle_cases : (P : BoardFound → Type 0)
-      → P (refused_with micro_tested board mem) → P (refused_with NextAddress board mem) → DoneAnyhow P → P (board_microcycle board program mem request)
+      → P (refused_with micro_tested board mem) → P (refused_with (Err NextAddress) board mem) → DoneAnyhow P → P (board_microcycle board program mem request)
   unfolding board_microcycle micro.run micro.run_on
   microcycle_cases P refused leaving done = by_test (is_done micro_tested)
     where
       by_leaving : (b : Bool) (after : List ℕ) (s : MicroMachine) (microcycles steps : ℕ)
           → P (microcycle_found (micro.answered board
-          (cond b (micro.ended NextAddress mem (micro_unpacked board) 0 0) (micro.ended Done after s microcycles steps))))
+          (cond b (micro.ended (Err NextAddress) mem (micro_unpacked board) 0 0) (micro.ended (Ok tt) after s microcycles steps))))
       by_leaving true after s microcycles steps = leaving
       by_leaving false after s microcycles steps = done microcycles steps (micro_packed s) after
 

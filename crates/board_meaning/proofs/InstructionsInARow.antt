@@ -13,8 +13,9 @@ use borrow.Author.Tests.{le-ltb}
 use Rattle.words.specs.Registers.{register}
 use Rattle.status.specs.declared.psw.Psw.{Psw}
 use Rattle.status.proofs.PswNumbers.{dropped, restored, six_bits}
-use Rattle.answers.specs.declared.End.{End}
-use Rattle.answers.specs.declared.End.TheVariants.{Done, Request}
+use Rattle.answers.specs.Ends.{End}
+use Rattle.std.specs.Prelude.{Ok, Err}
+use Rattle.answers.specs.declared.Refusal.TheVariants.{Request}
 use Rattle.answers.specs.Ends.{is_done}
 use Rattle.answers.specs.Places.{above, first_place}
 use Rattle.answers.specs.Tests.{lent_test}
@@ -88,7 +89,7 @@ module _ (board : MicroState) (mem : List ℕ) where
       bytes : End
       bytes =
           let first_bad = first_place (above most_step_request) (request ∷ []) in
-          cond (ltb first_bad 1) (Request first_bad) Done
+          cond (ltb first_bad 1) (Err (Request first_bad)) (Ok tt)
 
       go : (b : Bool) → is_done lent ≡ b → is_done (cond b bytes lent) ≡ true → is_done lent ≡ true
       go true e d = e
@@ -101,7 +102,7 @@ module _ (board : MicroState) (mem : List ℕ) where
       place : Bool → ℕ
       place bad = cond bad 0 (suc 0)
 
-      go : (bad l : Bool) → l ≡ true → is_done (cond l (cond (ltb (place bad) 1) (Request (place bad)) Done) lent) ≡ true → bad ≡ false
+      go : (bad l : Bool) → l ≡ true → is_done (cond l (cond (ltb (place bad) 1) (Err (Request (place bad))) (Ok tt)) lent) ≡ true → bad ≡ false
       go false l e d = refl
       go true true e d = absurd (false≢true d)
       go true false e d = absurd (false≢true e)

@@ -7,8 +7,9 @@ use lib.Dec.{eqb, ltb}
 use lib.ListN.{length}
 use Rattle.words.specs.Lengths.{legal_length}
 use Rattle.words.specs.Registers.{register}
-use Rattle.answers.specs.declared.End.{End}
-use Rattle.answers.specs.declared.End.TheVariants.{Done, MemoryLength, RegisterZero, ProgramLength, Microword, Outside, Request}
+use Rattle.answers.specs.Ends.{End}
+use Rattle.std.specs.Prelude.{Ok, Err}
+use Rattle.answers.specs.declared.Refusal.TheVariants.{MemoryLength, RegisterZero, ProgramLength, Microword, Outside, Request}
 use Rattle.answers.specs.Ends.{shown, is_done}
 use Rattle.answers.specs.Places.{above, first_place}
 use Rattle.answers.specs.Tests.{lent_test}
@@ -35,15 +36,15 @@ instruction_numbers = 0 ∷ 1 ∷ 3 ∷ 7 ∷ []
 
 -- the tests by what each finds
 abbrev lent : Bool → Bool → End
-lent memory zero = cond memory (cond zero Done RegisterZero) MemoryLength
+lent memory zero = cond memory (cond zero (Ok tt) (Err RegisterZero)) (Err MemoryLength)
 
 abbrev machine : Bool → Bool → Bool → Bool → ℕ → End
 machine memory zero size bad_word word =
-    cond (is_done (lent memory zero)) (cond size (cond bad_word (Microword word) Done) ProgramLength) (lent memory zero)
+    cond (is_done (lent memory zero)) (cond size (cond bad_word (Err (Microword word)) (Ok tt)) (Err ProgramLength)) (lent memory zero)
 
 by_micro_tests : (memory zero size bad_word inside bad : Bool) (word place : ℕ)
     → among microcycle_numbers (shown (cond (is_done (machine memory zero size bad_word word))
-    (cond inside (cond bad (Request place) Done) Outside) (machine memory zero size bad_word word))).number ≡ true
+    (cond inside (cond bad (Err (Request place)) (Ok tt)) (Err Outside)) (machine memory zero size bad_word word))).number ≡ true
 by_micro_tests false zero size bad_word inside bad word place = refl
 by_micro_tests true false size bad_word inside bad word place = refl
 by_micro_tests true true false bad_word inside bad word place = refl
@@ -54,7 +55,7 @@ by_micro_tests true true true false true false word place = refl
 
 by_macro_tests : (memory zero bad : Bool) (place : ℕ)
     → among instruction_numbers (shown (cond (is_done (lent memory zero))
-    (cond bad (Request place) Done) (lent memory zero))).number ≡ true
+    (cond bad (Err (Request place)) (Ok tt)) (lent memory zero))).number ≡ true
 by_macro_tests false zero bad place = refl
 by_macro_tests true false bad place = refl
 by_macro_tests true true true place = refl

@@ -14,8 +14,8 @@ use mir.Val.{bool_byte as num}
 use borrow.Author.Tests.{lt-leb, eqb-true, eqb-false}
 use Rattle.words.specs.Fields.{opcode}
 use Rattle.words.proofs.FieldBounds.{field_lt}
-use Rattle.answers.specs.declared.End.{End}
-use Rattle.answers.specs.declared.End.TheVariants.{Done}
+use Rattle.answers.specs.Ends.{End}
+use Rattle.std.specs.Prelude.{Ok, Err}
 use Rattle.answers.specs.Ends.{shown, is_done}
 use Rattle.answers.proofs.OneNumberAnEnd.{only_done_is_done}
 use Rattle.control_store.specs.Sequencer.{fetch_address}
@@ -89,7 +89,7 @@ module _ (program : List ℕ) {n : ℕ} (accepted : Accepted program n) where
 
   -- ---- a run from there
   record Whole (done : ℕ) (requests : List ℕ) (r : RanOn) : Type 0 where
-    ends : r.ran.end ≡ Done
+    ends : r.ran.end ≡ Ok tt
     microcycles : r.ran.microcycles.count ≡ done + length requests
 
   one_on : (mem : List ℕ) (s : MicroMachine) (done returns request : ℕ) (rest : List ℕ) {k : ℕ} → UnderWay program k s.mpc
@@ -156,7 +156,7 @@ module _ (program : List ℕ) {n : ℕ} (accepted : Accepted program n) where
     first : UnderWay program 0 s.mpc
     first = subst (UnderWay program 0) (sym at_first) begun
 
-    pub never_refused : (run_on program mem s 0 0 requests).ran.end ≡ Done
+    pub never_refused : (run_on program mem s 0 0 requests).ran.end ≡ Ok tt
     never_refused = (whole requests mem s 0 0 first).ends
 
     pub all_microcycles : (run_on program mem s 0 0 requests).ran.microcycles.count ≡ length requests

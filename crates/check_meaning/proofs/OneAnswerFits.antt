@@ -4,8 +4,9 @@ use native.Mathlib.Omega.{arith}
 use mathlib.Core.Path.{◌≡◌, sym, ap, ◌∙◌}
 use mathlib.Core.Bool.{false, false≢true}
 use mathlib.Core.List.{List}
-use Rattle.answers.specs.declared.End.{End}
-use Rattle.answers.specs.declared.End.TheVariants.{Done, WalkLeaves, WalkNotBack}
+use Rattle.answers.specs.Ends.{End}
+use Rattle.std.specs.Prelude.{Ok, Err}
+use Rattle.answers.specs.declared.Refusal.TheVariants.{WalkLeaves, WalkNotBack}
 use Rattle.answers.specs.Ends.{is_done}
 use Rattle.control_store.specs.ControlStore.{store_test}
 use Rattle.check_meaning.specs.declared.Checked.{Checked}
@@ -17,7 +18,7 @@ one_lowest {Kind} {a} {c} l m = let up = l.none_lower c m.there in let down = m.
 
 module _ (program : List ℕ) where
   -- refused 4 or 5, and passed
-  not_both : {end : End} → store_test program ≡ end → is_done end ≡ false → store_test program ≡ Done → ⊥
+  not_both : {end : End} → store_test program ≡ end → is_done end ≡ false → store_test program ≡ Ok tt → ⊥
   not_both e d f = false≢true (sym d ∙ ap is_done (sym e ∙ f))
 
   inside : {a : ℕ} → Leaving program a → NoneLeaves program → ⊥
@@ -33,13 +34,13 @@ module _ (program : List ℕ) where
   one_answer_fits (illegal e d) (accepted f m) = absurd (not_both e d f)
   one_answer_fits (leaves e l) (illegal f g) = absurd (not_both f g e)
   one_answer_fits (leaves {a} e l) (leaves {a = c} f m) =
-      ap (λ (k : ℕ). refusal (WalkLeaves k)) (one_lowest l m)
+      ap (λ (k : ℕ). refusal (Err (WalkLeaves k))) (one_lowest l m)
   one_answer_fits (leaves e l) (not_back f m) = absurd (inside l m.0)
   one_answer_fits (leaves e l) (accepted f m) = absurd (inside l m.none_leaves)
   one_answer_fits (not_back e l) (illegal f g) = absurd (not_both f g e)
   one_answer_fits (not_back e l) (leaves f m) = absurd (inside m l.0)
   one_answer_fits (not_back {a} e l) (not_back {a = c} f m) =
-      ap (λ (k : ℕ). refusal (WalkNotBack k)) (one_lowest l.1 m.1)
+      ap (λ (k : ℕ). refusal (Err (WalkNotBack k))) (one_lowest l.1 m.1)
   one_answer_fits (not_back e l) (accepted f m) = absurd (in_time l m)
   one_answer_fits (accepted e l) (illegal f g) = absurd (not_both f g e)
   one_answer_fits (accepted e l) (leaves f m) = absurd (inside m l.none_leaves)

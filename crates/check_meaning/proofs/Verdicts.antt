@@ -10,7 +10,8 @@ use lib.Dec.{eqb, ltb}
 use lib.ListN.{length, get_or}
 use borrow.Author.Tests.{ltb-true, ltb-false, eqb-true, eqb-false}
 use Rattle.words.proofs.Cases.{lt_or_le}
-use Rattle.answers.specs.declared.End.TheVariants.{Done, WalkLeaves, WalkNotBack}
+use Rattle.std.specs.Prelude.{Ok, Err}
+use Rattle.answers.specs.declared.Refusal.TheVariants.{WalkLeaves, WalkNotBack}
 use Rattle.answers.specs.Ends.{is_done}
 use Rattle.answers.proofs.OneNumberAnEnd.{only_done_is_done}
 use Rattle.control_store.specs.ControlStore.{store_test}
@@ -96,18 +97,18 @@ module _ (program : List ℕ) where
       }
 
   -- ---- the verdict
-  judged_meant : store_test program ≡ Done → Meant program (judged program found)
+  judged_meant : store_test program ≡ Ok tt → Meant program (judged program found)
   judged_meant e = by_leaving (ltb lowest (length program)) refl
     where
       by_standing : NoneLeaves program → (b : Bool) → eqb found.standing 0 ≡ b
-          → Meant program (cond b (acceptance found.longest.count) (refusal (WalkNotBack (count_trailing_zeros 64 found.standing))))
+          → Meant program (cond b (acceptance found.longest.count) (refusal (Err (WalkNotBack (count_trailing_zeros 64 found.standing)))))
       by_standing inside true t = accepted e (longest (some_word program e) inside (eqb-true found.standing 0 t))
       by_standing inside false t = not_back e (late inside (eqb-false found.standing 0 t))
 
       by_leaving : (b : Bool) → ltb lowest (length program) ≡ b
           → Meant program
-          (cond b (refusal (WalkLeaves lowest))
-          (cond (eqb found.standing 0) (acceptance found.longest.count) (refusal (WalkNotBack (count_trailing_zeros 64 found.standing)))))
+          (cond b (refusal (Err (WalkLeaves lowest)))
+          (cond (eqb found.standing 0) (acceptance found.longest.count) (refusal (Err (WalkNotBack (count_trailing_zeros 64 found.standing))))))
       by_leaving true t = leaves e (leaving (ltb-true lowest (length program) t))
       by_leaving false t = by_standing (none_leaves (ltb-false lowest (length program) t)) (eqb found.standing 0) refl
 

@@ -5,7 +5,8 @@ use mathlib.Core.List.{List, [], ◌∷◌, map}
 use lib.Count.{count_trailing_zeros}
 use lib.ListN.{replicate}
 use Rattle.words.specs.Words.{field, bit}
-use Rattle.answers.specs.declared.End.TheVariants.{ProgramLength, Microword, WalkLeaves, WalkNotBack}
+use Rattle.std.specs.Prelude.{Ok, Err}
+use Rattle.answers.specs.declared.Refusal.TheVariants.{ProgramLength, Microword, WalkLeaves, WalkNotBack}
 use Rattle.answers.specs.Places.{first_place}
 use Rattle.control_store.specs.Codes.{jmp, legal_microword}
 use Rattle.control_store.specs.ControlStore.{legal_store_length, store_test}
@@ -34,14 +35,14 @@ programs =
 abbrev answers : List Checked
 answers =
     acceptance 1
-    ∷ refusal (WalkNotBack 1)
-    ∷ refusal (WalkNotBack 2)
+    ∷ refusal (Err (WalkNotBack 1))
+    ∷ refusal (Err (WalkNotBack 2))
     ∷ acceptance 64
-    ∷ refusal ProgramLength
-    ∷ refusal ProgramLength
-    ∷ refusal (Microword 0)
-    ∷ refusal (Microword 1)
-    ∷ refusal (WalkLeaves 0)
+    ∷ refusal (Err ProgramLength)
+    ∷ refusal (Err ProgramLength)
+    ∷ refusal (Err (Microword 0))
+    ∷ refusal (Err (Microword 1))
+    ∷ refusal (Err (WalkLeaves 0))
     ∷ []
 
 pub examples_hold : map verdict programs ≡ answers

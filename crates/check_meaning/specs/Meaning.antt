@@ -2,8 +2,9 @@
 -- order). Words are counted from 0. Assumes nothing.
 use Rattle.std.specs.Prelude.{ℕ, ◌<◌, ◌≤◌, ◌≡◌, false, List, length}
 use Rattle.answers.specs.declared.Microcycles.{Microcycles}
-use Rattle.answers.specs.declared.End.{End}
-use Rattle.answers.specs.declared.End.TheVariants.{Done, WalkLeaves, WalkNotBack}
+use Rattle.answers.specs.Ends.{End}
+use Rattle.std.specs.Prelude.{Ok, Err}
+use Rattle.answers.specs.declared.Refusal.TheVariants.{WalkLeaves, WalkNotBack}
 use Rattle.answers.specs.Ends.{is_done}
 use Rattle.control_store.specs.ControlStore.{store_test}
 use Rattle.check_meaning.specs.declared.Checked.{Checked}
@@ -60,11 +61,11 @@ abbrev pub refusal : End → Checked
 refusal end = record { end = end; longest = microcycles 0 }
 
 abbrev pub acceptance : ℕ → Checked
-acceptance n = record { end = Done; longest = microcycles n }
+acceptance n = record { end = Ok tt; longest = microcycles n }
 
 -- the answers that fit a microprogram: 4 and 5 by the test of a control store, the others by its walks
 pub data Meant (program : List ℕ) : Checked → Type 0 where
   illegal : {end : End} → store_test program ≡ end → is_done end ≡ false → Meant program (refusal end)
-  leaves : {a : ℕ} → store_test program ≡ Done → Leaving program a → Meant program (refusal (WalkLeaves a))
-  not_back : {a : ℕ} → store_test program ≡ Done → NotBack program a → Meant program (refusal (WalkNotBack a))
-  accepted : {n : ℕ} → store_test program ≡ Done → Accepted program n → Meant program (acceptance n)
+  leaves : {a : ℕ} → store_test program ≡ Ok tt → Leaving program a → Meant program (refusal (Err (WalkLeaves a)))
+  not_back : {a : ℕ} → store_test program ≡ Ok tt → NotBack program a → Meant program (refusal (Err (WalkNotBack a)))
+  accepted : {n : ℕ} → store_test program ≡ Ok tt → Accepted program n → Meant program (acceptance n)

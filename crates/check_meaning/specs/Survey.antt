@@ -6,7 +6,8 @@ use Rattle.std.specs.Int.Bits.{bit_or}
 use Rattle.std.specs.Int.Count.{count_trailing_zeros}
 use mir.Val.{bool_byte as num}
 use Rattle.answers.specs.declared.Microcycles.{Microcycles}
-use Rattle.answers.specs.declared.End.TheVariants.{WalkLeaves, WalkNotBack}
+use Rattle.std.specs.Prelude.{Ok, Err}
+use Rattle.answers.specs.declared.Refusal.TheVariants.{WalkLeaves, WalkNotBack}
 use Rattle.answers.specs.Ends.{is_done}
 use Rattle.control_store.specs.Codes.{jop}
 use Rattle.control_store.specs.Microword.{fields}
@@ -88,9 +89,9 @@ lowest_leaving program seen = first_leaving (length program) 0 program seen
 abbrev pub judged : List ℕ → Survey → Checked
 judged program s =
     let leaving = lowest_leaving program s.seen in
-    cond (ltb leaving (length program)) (refusal (WalkLeaves leaving))
+    cond (ltb leaving (length program)) (refusal (Err (WalkLeaves leaving)))
     (cond (eqb s.standing 0) (acceptance s.longest.count)
-    (refusal (WalkNotBack (count_trailing_zeros 64 s.standing))))
+    (refusal (Err (WalkNotBack (count_trailing_zeros 64 s.standing)))))
 
 unfoldable pub verdict : List ℕ → Checked
 verdict program = let test = store_test program in cond (is_done test) (judged program (surveyed program)) (refusal test)

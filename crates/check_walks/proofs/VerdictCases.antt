@@ -7,8 +7,9 @@ use lib.Count.{count_trailing_zeros}
 use lib.ListN.{length}
 use borrow.Author.Tests.{lt-ltb, le-ltb, eq-eqb, ne_eqb}
 use Rattle.words.proofs.Cases.{turned, upright}
-use Rattle.answers.specs.declared.End.{End}
-use Rattle.answers.specs.declared.End.TheVariants.{Done, WalkLeaves, WalkNotBack}
+use Rattle.answers.specs.Ends.{End}
+use Rattle.std.specs.Prelude.{Ok, Err}
+use Rattle.answers.specs.declared.Refusal.TheVariants.{WalkLeaves, WalkNotBack}
 use Rattle.answers.specs.Ends.{is_done}
 use Rattle.control_store.specs.ControlStore.{store_test}
 use Rattle.check_meaning.specs.declared.Checked.{Checked}
@@ -37,15 +38,15 @@ module _ (program : List ℕ) {test : End} {ok : Bool} (e : test ≡ store_test 
     place : lowest_leaving program s.seen ≡ lowest
     place = sym g
 
-    pub can_leave : {r : Checked} → lowest < length program → r ≡ refusal (WalkLeaves lowest) → Meant program r
+    pub can_leave : {r : Checked} → lowest < length program → r ≡ refusal (Err (WalkLeaves lowest)) → Meant program r
     can_leave h q = meant (q ∙ sym (judgement ∙ rw (place, lt-ltb lowest (length program) h)))
 
     module _ (none_leaves : length program ≤ lowest) where
-      pub late : {r : Checked} {word : ℕ} → (s.standing ≡ 0 → ⊥) → word ≡ count_trailing_zeros 64 s.standing → r ≡ refusal (WalkNotBack word) → Meant program r
+      pub late : {r : Checked} {word : ℕ} → (s.standing ≡ 0 → ⊥) → word ≡ count_trailing_zeros 64 s.standing → r ≡ refusal (Err (WalkNotBack word)) → Meant program r
       late h stands q =
           meant
-          (q ∙ ap (λ (k : ℕ). refusal (WalkNotBack k)) stands
+          (q ∙ ap (λ (k : ℕ). refusal (Err (WalkNotBack k))) stands
           ∙ sym (judgement ∙ rw (place, le-ltb lowest (length program) none_leaves, ne_eqb s.standing 0 h)))
 
-      pub fine : s.standing ≡ 0 → Meant program (record { end = Done; longest = s.longest })
+      pub fine : s.standing ≡ 0 → Meant program (record { end = Ok tt; longest = s.longest })
       fine h = meant (sym (judgement ∙ rw (place, le-ltb lowest (length program) none_leaves, eq-eqb s.standing 0 h)))

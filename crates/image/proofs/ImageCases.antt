@@ -6,8 +6,9 @@ use mathlib.Core.List.{List}
 use lib.ListN.{length}
 use borrow.Author.Tests.{le-leb, lt-leb}
 use Rattle.words.proofs.Cases.{turned, upright}
-use Rattle.answers.specs.declared.End.{End}
-use Rattle.answers.specs.declared.End.TheVariants.{TextLength}
+use Rattle.answers.specs.Ends.{End}
+use Rattle.std.specs.Prelude.{Ok, Err}
+use Rattle.answers.specs.declared.Refusal.TheVariants.{TextLength}
 use Rattle.answers.specs.Ends.{is_done}
 use Rattle.image_meaning.specs.Reading.{read_answer, memory_after}
 use Rattle.image_meaning.specs.Writing.{room_after}
@@ -17,7 +18,7 @@ module _ (text room : List ℕ) where
   abbrev pub AsMeant : End → List ℕ → Type 0
   AsMeant end after = (end ≡ image_answer text) × (after ≡ image_room text room)
 
-  pub input_too_long : most_input < length text → AsMeant TextLength room
+  pub input_too_long : most_input < length text → AsMeant (Err TextLength) room
   input_too_long h = (rw (lt-leb (length text) most_input h), rw (lt-leb (length text) most_input h))
 
   module _ (short : length text ≤ most_input) {end : End} (e : end ≡ read_answer zeros text) {fine : Bool} (f : fine ≡ is_done end) where

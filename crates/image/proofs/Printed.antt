@@ -8,7 +8,7 @@ use lib.Count.{ones, ones_in}
 use lib.ListN.{length}
 use lib.Seq.{take_all}
 use Rattle.words.specs.Lengths.{legal_length}
-use Rattle.answers.specs.declared.End.TheVariants.{Done}
+use Rattle.std.specs.Prelude.{Ok, Err}
 use Rattle.image_meaning.specs.Reading.{memory_after}
 use Rattle.image_meaning.specs.Writing.{written_text, written_length, room_after}
 use Rattle.image_meaning.proofs.AsLent.{memory_keeps_its_length, room_keeps_its_length}
@@ -19,7 +19,7 @@ sixteen : legal_length 16 ≡ true
 unfolding legal_length ones ones_in
 sixteen = refl
 
-pub image_printed : (text room : List ℕ) → image_answer text ≡ Done → length room ≡ 188 →
+pub image_printed : (text room : List ℕ) → image_answer text ≡ Ok tt → length room ≡ 188 →
     image_room text room ≡ written_text (memory_after zeros text)
 image_printed text room e r =
     let read = memory_after zeros text in

@@ -4,7 +4,7 @@ use mathlib.Core.Path.{◌≡◌, sym, ◌∙◌}
 use mathlib.Core.Bool.{Bool, true, false, not}
 use mathlib.Core.List.{List}
 use Rattle.words.proofs.Cases.{turned, upright}
-use Rattle.answers.specs.declared.End.{End}
+use Rattle.answers.specs.Ends.{End}
 use Rattle.answers.specs.Ends.{is_done}
 use Rattle.answers.proofs.OneNumberAnEnd.{only_done_is_done}
 use Rattle.image_meaning.specs.declared.Written.{Written}

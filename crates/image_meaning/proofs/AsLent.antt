@@ -7,8 +7,8 @@ use mathlib.Core.List.{List, [], ◌∷◌, foldl}
 use lib.Dec.{eqb}
 use lib.ListN.{length, get_or, drop}
 use lib.Seq.{sets, length-sets}
-use Rattle.answers.specs.declared.End.{End}
-use Rattle.answers.specs.declared.End.TheVariants.{Done}
+use Rattle.answers.specs.Ends.{End}
+use Rattle.std.specs.Prelude.{Ok, Err}
 use Rattle.answers.specs.Ends.{is_done}
 use Rattle.answers.proofs.OneNumberAnEnd.{only_done_is_done}
 use Rattle.image_placing.specs.Placing.{names, stored}
@@ -21,18 +21,18 @@ use Rattle.image_meaning.specs.Writing.{written_text, write_answer, room_after}
 
 -- ---- refused
 
-not_done : (end : End) → (end ≡ Done → ⊥) → is_done end ≡ false
+not_done : (end : End) → (end ≡ Ok tt → ⊥) → is_done end ≡ false
 not_done end h = by_test (is_done end) refl
   where
     by_test : (t : Bool) → is_done end ≡ t → is_done end ≡ false
     by_test true e = absurd (h (only_done_is_done end e))
     by_test false e = e
 
-pub refused_read_leaves_memory : (memory text : List ℕ) → (read_answer memory text ≡ Done → ⊥) → memory_after memory text ≡ memory
+pub refused_read_leaves_memory : (memory text : List ℕ) → (read_answer memory text ≡ Ok tt → ⊥) → memory_after memory text ≡ memory
 unfolding memory_after
 refused_read_leaves_memory memory text h = rw (not_done (read_answer memory text) h)
 
-pub refused_write_leaves_the_room : (memory room : List ℕ) → ((write_answer memory room).end ≡ Done → ⊥) → room_after memory room ≡ room
+pub refused_write_leaves_the_room : (memory room : List ℕ) → ((write_answer memory room).end ≡ Ok tt → ⊥) → room_after memory room ≡ room
 unfolding room_after
 refused_write_leaves_the_room memory room h = rw (not_done (write_answer memory room).end h)
 

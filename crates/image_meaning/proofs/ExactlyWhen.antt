@@ -8,8 +8,9 @@ use lib.Dec.{eqb, leb}
 use lib.ListN.{length}
 use borrow.Author.Tests.{eqb-true, eqb-false, ne_eqb, le-leb, lt-leb, leb-true, leb-false}
 use Rattle.words.specs.Lengths.{legal_length}
-use Rattle.answers.specs.declared.End.{End}
-use Rattle.answers.specs.declared.End.TheVariants.{MemoryLength, TextLength, LineSum, RecordType, Placement, EndRecord}
+use Rattle.answers.specs.Ends.{End}
+use Rattle.std.specs.Prelude.{Ok, Err}
+use Rattle.answers.specs.declared.Refusal.TheVariants.{MemoryLength, TextLength, LineSum, RecordType, Placement, EndRecord}
 use Rattle.image_placing.specs.declared.Placed.{Placed}
 use Rattle.image_placing.specs.Placing.{placing, Stands, fits, early, misplaced}
 use Rattle.image_placing.proofs.StandsExactly.{stands_exactly}
@@ -46,7 +47,7 @@ closes : (m n end : ℕ) (line : List ℕ) (rest : List (List ℕ)) → record_o
 unfolding read_lines
 closes m n end line [] s = end_record s
 closes m n end line (more ∷ rest) s =
-    subst (Outcome m n end (line ∷ more ∷ rest)) (sym (refused_stays m (suc (suc n)) (EndRecord (suc (suc n))) rest)) (line_behind s)
+    subst (Outcome m n end (line ∷ more ∷ rest)) (sym (refused_stays m (suc (suc n)) (Err (EndRecord (suc (suc n)))) rest)) (line_behind s)
 
 module _ (m n end : ℕ) (line : List ℕ) (rest : List (List ℕ))
     (go_on : (next : ℕ) → Outcome m (suc n) next rest (read_lines m (suc n) (Open next) rest)) where
@@ -58,7 +59,7 @@ module _ (m n end : ℕ) (line : List ℕ) (rest : List (List ℕ))
     placed p (misplaced w) r = refused m n end line rest _ (data_misplaced r w)
 
     closed : (c a : Bool) → eqb count 0 ≡ c → eqb address 0 ≡ a → record_of line ≡ Record count address end_kind 0 →
-        Comes m n end line rest (cond (c && a) Ended (Refused (Placement (suc n))))
+        Comes m n end line rest (cond (c && a) Ended (Refused (Err (Placement (suc n)))))
     closed true true e f r =
         closes m n end line rest (r ∙ λ i. Record (eqb-true count 0 e i) (eqb-true address 0 f i) end_kind 0)
     closed true false e f r = refused m n end line rest _ (end_misplaced r (λ z. eqb-false address 0 f z.1))
@@ -67,7 +68,7 @@ module _ (m n end : ℕ) (line : List ℕ) (rest : List (List ℕ))
     by_type : (d e : Bool) → eqb kind data_kind ≡ d → eqb kind end_kind ≡ e → sum ≡ 0 →
         Comes m n end line rest
         (cond d (data_read (placing m end address count) (suc n) (address + count))
-        (cond e (cond (eqb count 0 && eqb address 0) Ended (Refused (Placement (suc n)))) (Refused (RecordType (suc n)))))
+        (cond e (cond (eqb count 0 && eqb address 0) Ended (Refused (Err (Placement (suc n))))) (Refused (Err (RecordType (suc n))))))
     by_type true e f g z =
         placed (placing m end address count) ((stands_exactly m end address count (placing m end address count)).0 refl)
         (s ∙ λ i. Record count address (eqb-true kind data_kind f i) (z i))
@@ -81,9 +82,9 @@ module _ (m n end : ℕ) (line : List ℕ) (rest : List (List ℕ))
         Comes m n end line rest
         (cond t
         (cond (eqb kind data_kind) (data_read (placing m end address count) (suc n) (address + count))
-        (cond (eqb kind end_kind) (cond (eqb count 0 && eqb address 0) Ended (Refused (Placement (suc n))))
-        (Refused (RecordType (suc n)))))
-        (Refused (LineSum (suc n))))
+        (cond (eqb kind end_kind) (cond (eqb count 0 && eqb address 0) Ended (Refused (Err (Placement (suc n)))))
+        (Refused (Err (RecordType (suc n))))))
+        (Refused (Err (LineSum (suc n)))))
     by_sum true e = by_type (eqb kind data_kind) (eqb kind end_kind) refl refl (eqb-true sum 0 e)
     by_sum false e = refused m n end line rest _ (sum_wrong s (eqb-false sum 0 e))
 
@@ -139,7 +140,7 @@ answered m (too_early {n} {end} {count} {address} {line} {rest} s w o) =
     refuses m n end line rest s (by_place m n end count address (early w o))
 answered m no_end_record = refl
 answered m (line_behind {n} {end} {line} {more} {rest} s) =
-    after m n end line (more ∷ rest) s refl (refused_stays m (suc (suc n)) (EndRecord (suc (suc n))) rest)
+    after m n end line (more ∷ rest) s refl (refused_stays m (suc (suc n)) (Err (EndRecord (suc (suc n)))) rest)
 
 pub lines_exactly : (m : ℕ) (text : List ℕ) (why : End) → (judged m text ≡ why) ↔ Outcome m 0 0 (lines_of text) why
 lines_exactly m text why = (λ e. subst (Outcome m 0 0 (lines_of text)) e (brought m 0 0 (lines_of text)), answered m)
@@ -152,7 +153,7 @@ module _ (memory text : List ℕ) where
   text_brought = by_tests (legal_length (length memory)) (leb (length text) most_text) refl refl
     where
       by_tests : (l s : Bool) → legal_length (length memory) ≡ l → leb (length text) most_text ≡ s →
-          TextOutcome memory text (cond l (cond s (judged (length memory) text) TextLength) MemoryLength)
+          TextOutcome memory text (cond l (cond s (judged (length memory) text) (Err TextLength)) (Err MemoryLength))
       by_tests true true e f = by_its_lines e (leb-true (length text) most_text f) (brought (length memory) 0 0 (lines_of text))
       by_tests true false e f = text_too_long e (leb-false (length text) most_text f)
       by_tests false s e f = length_illegal e

@@ -11,8 +11,8 @@ use lib.ListN.{length, take, drop}
 use lib.Seq.{sets-eq, take_at, drop_at}
 use borrow.Author.Tests.{le-leb}
 use Rattle.words.specs.Lengths.{legal_length}
-use Rattle.answers.specs.declared.End.{End}
-use Rattle.answers.specs.declared.End.TheVariants.{Done}
+use Rattle.answers.specs.Ends.{End}
+use Rattle.std.specs.Prelude.{Ok, Err}
 use Rattle.image_meaning.specs.declared.Written.{Written}
 use Rattle.image_meaning.specs.Digits.{Words}
 use Rattle.image_meaning.specs.Reading.{read_answer, memory_after}
@@ -50,7 +50,7 @@ module _ (memory room : List ℕ) (legal : legal_length (length memory) ≡ true
   pub read_back : Words memory → (old : List ℕ) → length old ≡ length memory →
       {r : Written} {left : List ℕ} → r ≡ write_answer memory room → left ≡ room_after memory room →
       {s : End} {after : List ℕ} → s ≡ read_answer old (take r.bytes left) → after ≡ memory_after old (take r.bytes left) →
-      (r.end ≡ Done) × (s ≡ Done) × (after ≡ memory)
+      (r.end ≡ Ok tt) × (s ≡ Ok tt) × (after ≡ memory)
   read_back words old same_size {r} {left} w e read stored = (
     ap (λ (a : Written). a.end) (w ∙ write_accepted),
     read ∙ ap (read_answer old) text ∙ written_text_accepted memory legal words old same_size,

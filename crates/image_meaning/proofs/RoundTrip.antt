@@ -9,7 +9,7 @@ use lib.ListN.{length, take, drop, length-append}
 use lib.Seq.{sets, sets-eq, take_at, drop_at}
 use borrow.Author.Tests.{le-leb}
 use Rattle.words.specs.Lengths.{legal_length}
-use Rattle.answers.specs.declared.End.TheVariants.{Done}
+use Rattle.std.specs.Prelude.{Ok, Err}
 use Rattle.image_meaning.specs.declared.Reading.{Reading}
 use Rattle.image_meaning.specs.declared.Reading.TheVariants.{Open}
 use Rattle.image_meaning.specs.Digits.{Words}
@@ -37,7 +37,7 @@ by_fours (suc q) (w ∷ x ∷ y ∷ z ∷ l) e = take_four (by_fours q l (omega 
 -- ---- the text is accepted
 
 accepted : {q : ℕ} {words : List ℕ} → ByFours q words → Words words → (i m lines : ℕ) → i + q ≤ 4096 → 4 * (i + q) ≤ m →
-    read_lines m lines (Open (16 * i)) (lines_of (text_from i words)) ≡ Done
+    read_lines m lines (Open (16 * i)) (lines_of (text_from i words)) ≡ Ok tt
 unfolding read_lines text_from
 accepted done ws i m lines h k =
     ap (read_lines m lines (Open (16 * i))) (line_cut_off end_bytes [])
@@ -103,7 +103,7 @@ module _ (memory : List ℕ) (legal : legal_length (length memory) ≡ true) whe
   text_has_its_length = text_length (by_fours quarter memory exactly) 0
 
   module _ (words : Words memory) (old : List ℕ) (same_size : length old ≡ length memory) where
-    pub written_text_accepted : read_answer old (written_text memory) ≡ Done
+    pub written_text_accepted : read_answer old (written_text memory) ≡ Ok tt
     unfolding read_answer
     written_text_accepted =
         rw (same_size, legal, le-leb (length (written_text memory)) most_text short)

@@ -8,8 +8,8 @@ use mathlib.Core.List.{List, [], ◌++◌, foldl, append_assoc}
 use lib.ListN.{length, get_or, take, drop, get_or-append}
 use lib.Seq.{sets, sets-eq, length-take-le, get_or-append-add}
 use borrow.Author.Tests.{eq-eqb, lt-leb}
-use Rattle.answers.specs.declared.End.{End}
-use Rattle.answers.specs.declared.End.TheVariants.{Done}
+use Rattle.answers.specs.Ends.{End}
+use Rattle.std.specs.Prelude.{Ok, Err}
 use Rattle.answers.specs.Ends.{is_done}
 use Rattle.image_meaning.specs.declared.Line.{Line}
 use Rattle.image_meaning.specs.declared.Line.TheVariants.{NoRecord, Record}
@@ -130,14 +130,14 @@ holds m (line_behind s) d memory e k h t j b = absurd (false≢true d)
 
 -- ---- the whole text. Line k, counted from 0, is a data record, and j one of its words
 
-module _ (memory text : List ℕ) (done : read_answer memory text ≡ Done) (k : ℕ) (h : k < length (lines_of text)) where
+module _ (memory text : List ℕ) (done : read_answer memory text ≡ Ok tt) (k : ℕ) (h : k < length (lines_of text)) where
   abbrev line : List ℕ
   line = get_or (lines_of text) k []
 
   pub named_words_hold_what_is_said : kind_of line ≡ data_kind → (j : ℕ) → j < count_of line / 4 →
       get_or (memory_after memory text) (address_of line / 4 + j) 0 ≡ get_or (words_of (count_of line / 4) (data_of line)) j 0
   unfolding memory_after
-  named_words_hold_what_is_said t j b = rw done (by_outcome ((exactly_when memory text Done).0 done) refl)
+  named_words_hold_what_is_said t j b = rw done (by_outcome ((exactly_when memory text (Ok tt)).0 done) refl)
     where
       by_outcome : {why : End} → TextOutcome memory text why → is_done why ≡ true →
           get_or (foldl with_line memory (lines_of text)) (place line j) 0 ≡ said line j

@@ -3,8 +3,9 @@
 -- the reader's answer to it. Assumes nothing.
 use Rattle.std.specs.Prelude.{ℕ, suc, ◌+◌, ◌<◌, ◌≤◌, ◌≡◌, true, false, List, [], ◌∷◌, length}
 use Rattle.words.specs.Lengths.{legal_length}
-use Rattle.answers.specs.declared.End.{End}
-use Rattle.answers.specs.declared.End.TheVariants.{Done, MemoryLength, TextLength, LineForm, LineSum, RecordType, Placement, EndRecord, RecordOrder}
+use Rattle.answers.specs.Ends.{End}
+use Rattle.std.specs.Prelude.{Ok, Err}
+use Rattle.answers.specs.declared.Refusal.TheVariants.{MemoryLength, TextLength, LineForm, LineSum, RecordType, Placement, EndRecord, RecordOrder}
 use Rattle.image_placing.specs.Placing.{WellPlaced}
 use Rattle.image_meaning.specs.declared.Line.TheVariants.{NoRecord, Record}
 use Rattle.image_meaning.specs.Lines.{lines_of}
@@ -18,36 +19,36 @@ pub data Outcome (m : ℕ) : ℕ → ℕ → List (List ℕ) → End → Type 0 
       record_of line ≡ Record count address data_kind 0 → WellPlaced m address count → end ≤ address →
       Outcome m (suc n) (address + count) rest why → Outcome m n end (line ∷ rest) why
   -- accepted: the end record, and nothing after it
-  end_record : {n end : ℕ} {line : List ℕ} → record_of line ≡ Record 0 0 end_kind 0 → Outcome m n end (line ∷ []) Done
+  end_record : {n end : ℕ} {line : List ℕ} → record_of line ≡ Record 0 0 end_kind 0 → Outcome m n end (line ∷ []) (Ok tt)
   -- 10
   no_record : {n end : ℕ} {line : List ℕ} {rest : List (List ℕ)} → record_of line ≡ NoRecord →
-      Outcome m n end (line ∷ rest) (LineForm (suc n))
+      Outcome m n end (line ∷ rest) (Err (LineForm (suc n)))
   -- 11
   sum_wrong : {n end count address kind sum : ℕ} {line : List ℕ} {rest : List (List ℕ)} →
-      record_of line ≡ Record count address kind sum → (sum ≡ 0 → ⊥) → Outcome m n end (line ∷ rest) (LineSum (suc n))
+      record_of line ≡ Record count address kind sum → (sum ≡ 0 → ⊥) → Outcome m n end (line ∷ rest) (Err (LineSum (suc n)))
   -- 12
   other_type : {n end count address kind : ℕ} {line : List ℕ} {rest : List (List ℕ)} →
       record_of line ≡ Record count address kind 0 → (kind ≡ data_kind → ⊥) → (kind ≡ end_kind → ⊥) →
-      Outcome m n end (line ∷ rest) (RecordType (suc n))
+      Outcome m n end (line ∷ rest) (Err (RecordType (suc n)))
   -- 13, of a data record and of the end record
   data_misplaced : {n end count address : ℕ} {line : List ℕ} {rest : List (List ℕ)} →
       record_of line ≡ Record count address data_kind 0 → (WellPlaced m address count → ⊥) →
-      Outcome m n end (line ∷ rest) (Placement (suc n))
+      Outcome m n end (line ∷ rest) (Err (Placement (suc n)))
   end_misplaced : {n end count address : ℕ} {line : List ℕ} {rest : List (List ℕ)} →
       record_of line ≡ Record count address end_kind 0 → ((count ≡ 0) × (address ≡ 0) → ⊥) →
-      Outcome m n end (line ∷ rest) (Placement (suc n))
+      Outcome m n end (line ∷ rest) (Err (Placement (suc n)))
   -- 15
   too_early : {n end count address : ℕ} {line : List ℕ} {rest : List (List ℕ)} →
       record_of line ≡ Record count address data_kind 0 → WellPlaced m address count → address < end →
-      Outcome m n end (line ∷ rest) (RecordOrder (suc n))
+      Outcome m n end (line ∷ rest) (Err (RecordOrder (suc n)))
   -- 14: no line is left, or one is left behind the end record
-  no_end_record : {n end : ℕ} → Outcome m n end [] (EndRecord n)
+  no_end_record : {n end : ℕ} → Outcome m n end [] (Err (EndRecord n))
   line_behind : {n end : ℕ} {line more : List ℕ} {rest : List (List ℕ)} → record_of line ≡ Record 0 0 end_kind 0 →
-      Outcome m n end (line ∷ more ∷ rest) (EndRecord (suc (suc n)))
+      Outcome m n end (line ∷ more ∷ rest) (Err (EndRecord (suc (suc n))))
 
 -- the whole text: 1, then 9, then its lines
 pub data TextOutcome (memory text : List ℕ) : End → Type 0 where
-  length_illegal : legal_length (length memory) ≡ false → TextOutcome memory text MemoryLength
-  text_too_long : legal_length (length memory) ≡ true → most_text < length text → TextOutcome memory text TextLength
+  length_illegal : legal_length (length memory) ≡ false → TextOutcome memory text (Err MemoryLength)
+  text_too_long : legal_length (length memory) ≡ true → most_text < length text → TextOutcome memory text (Err TextLength)
   by_its_lines : {why : End} → legal_length (length memory) ≡ true → length text ≤ most_text →
       Outcome (length memory) 0 0 (lines_of text) why → TextOutcome memory text why

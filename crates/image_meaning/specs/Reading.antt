@@ -3,8 +3,9 @@
 use Rattle.std.specs.Prelude.{ℕ, suc, ◌+◌, ◌/◌, Bool, false, ◌&&◌, ◌||◌, cond, eqb, leb, length}
 use mathlib.Core.List.{List, [], ◌∷◌, foldl}
 use Rattle.words.specs.Lengths.{legal_length}
-use Rattle.answers.specs.declared.End.{End}
-use Rattle.answers.specs.declared.End.TheVariants.{Done, MemoryLength, TextLength, LineForm, LineSum, RecordType, Placement, EndRecord, RecordOrder}
+use Rattle.answers.specs.Ends.{End}
+use Rattle.std.specs.Prelude.{Ok, Err}
+use Rattle.answers.specs.declared.Refusal.TheVariants.{MemoryLength, TextLength, LineForm, LineSum, RecordType, Placement, EndRecord, RecordOrder}
 use Rattle.answers.specs.Ends.{is_done}
 use Rattle.image_placing.specs.declared.Placed.{Placed}
 use Rattle.image_placing.specs.declared.Placed.TheVariants.{Fits, Misplaced, Early}
@@ -31,31 +32,31 @@ end_kind = 1
 -- a data record: 13 and 15 are the placing's; where it fits, its data's end is the new one
 abbrev pub data_read : Placed → ℕ → ℕ → Reading
 data_read Fits number end = Open end
-data_read Misplaced number end = Refused (Placement number)
-data_read Early number end = Refused (RecordOrder number)
+data_read Misplaced number end = Refused (Err (Placement number))
+data_read Early number end = Refused (Err (RecordOrder number))
 
 -- the line of a number, read when the last data ended at `end`: tested 10, 11, 12, 13, 15 in this order
 unfoldable pub tested : ℕ → ℕ → ℕ → Line → Reading
-tested m number end NoRecord = Refused (LineForm number)
+tested m number end NoRecord = Refused (Err (LineForm number))
 tested m number end (Record count address kind sum) =
     cond (eqb sum 0)
     (cond (eqb kind data_kind) (data_read (placing m end address count) number (address + count))
-    (cond (eqb kind end_kind) (cond (eqb count 0 && eqb address 0) Ended (Refused (Placement number)))
-    (Refused (RecordType number))))
-    (Refused (LineSum number))
+    (cond (eqb kind end_kind) (cond (eqb count 0 && eqb address 0) Ended (Refused (Err (Placement number))))
+    (Refused (Err (RecordType number)))))
+    (Refused (Err (LineSum number)))
 
 -- a line behind the end record is refused 14 without further test; what is refused stays so
 abbrev pub next : ℕ → ℕ → Reading → List ℕ → Reading
 next m number (Open end) line = tested m number end (record_of line)
-next m number Ended line = Refused (EndRecord number)
+next m number Ended line = Refused (Err (EndRecord number))
 next m number (Refused why) line = Refused why
 
 -- ---- all lines
 
 -- no line is left: 14 where no end record was read, with the number of lines read
 abbrev pub finish : ℕ → Reading → End
-finish lines (Open end) = EndRecord lines
-finish lines Ended = Done
+finish lines (Open end) = Err (EndRecord lines)
+finish lines Ended = Ok tt
 finish lines (Refused why) = why
 
 -- the lines that are left, when some were read
@@ -87,7 +88,7 @@ named_in (line ∷ lines) w = line_names line w || named_in lines w
 
 unfoldable pub read_answer : List ℕ → List ℕ → End
 read_answer memory text =
-    cond (legal_length (length memory)) (cond (leb (length text) most_text) (judged (length memory) text) TextLength) MemoryLength
+    cond (legal_length (length memory)) (cond (leb (length text) most_text) (judged (length memory) text) (Err TextLength)) (Err MemoryLength)
 
 unfoldable pub memory_after : List ℕ → List ℕ → List ℕ
 memory_after memory text = cond (is_done (read_answer memory text)) (loaded memory text) memory

@@ -3,7 +3,8 @@
 use Rattle.std.specs.Prelude.{ℕ, suc, ◌+◌, ◌-◌, ◌*◌, ◌/◌, ◌%◌, cond, List, [], ◌∷◌, ◌++◌, leb, length}
 use Rattle.std.proofs.lemmas.List.Edits.{sets}
 use Rattle.words.specs.Lengths.{legal_length}
-use Rattle.answers.specs.declared.End.TheVariants.{Done, MemoryLength, Room}
+use Rattle.std.specs.Prelude.{Ok, Err}
+use Rattle.answers.specs.declared.Refusal.TheVariants.{MemoryLength, Room}
 use Rattle.answers.specs.Ends.{is_done}
 use Rattle.image_meaning.specs.declared.Written.{Written}
 use Rattle.image_meaning.specs.Digits.{sum_of, hex, word_bytes}
@@ -52,14 +53,14 @@ written_length m = 11 * m + 12
 -- ---- the writer: 1, then 16 with the bytes needed; the room changes where nothing is refused, and its rest nowhere
 
 abbrev pub written : ℕ → Written
-written bytes = record { end = Done; bytes = bytes }
+written bytes = record { end = Ok tt; bytes = bytes }
 
 unfoldable pub write_answer : List ℕ → List ℕ → Written
 write_answer memory room =
     cond (legal_length (length memory))
     (cond (leb (written_length (length memory)) (length room)) (written (written_length (length memory)))
-    (record { end = Room (written_length (length memory)); bytes = 0 }))
-    (record { end = MemoryLength; bytes = 0 })
+    (record { end = (Err (Room (written_length (length memory)))); bytes = 0 }))
+    (record { end = Err MemoryLength; bytes = 0 })
 
 unfoldable pub room_after : List ℕ → List ℕ → List ℕ
 room_after memory room = cond (is_done (write_answer memory room).end) (sets room 0 (written_text memory)) room

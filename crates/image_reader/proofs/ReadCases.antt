@@ -7,8 +7,9 @@ use lib.ListN.{length}
 use borrow.Author.Tests.{le-leb, lt-leb}
 use Rattle.words.specs.Lengths.{legal_length}
 use Rattle.words.proofs.Cases.{turned, upright}
-use Rattle.answers.specs.declared.End.{End}
-use Rattle.answers.specs.declared.End.TheVariants.{MemoryLength, TextLength}
+use Rattle.answers.specs.Ends.{End}
+use Rattle.std.specs.Prelude.{Ok, Err}
+use Rattle.answers.specs.declared.Refusal.TheVariants.{MemoryLength, TextLength}
 use Rattle.answers.specs.Ends.{is_done}
 use Rattle.image_meaning.specs.Reading.{most_text, judged, loaded, read_answer, memory_after}
 
@@ -21,12 +22,12 @@ module _ (memory text : List ℕ) where
   untouched e h = (sym e, rw (e, h))
 
   module _ {legal : Bool} (l : legal ≡ legal_length (length memory)) where
-    pub length_refused : not legal ≡ true → AsMeant MemoryLength memory
+    pub length_refused : not legal ≡ true → AsMeant (Err MemoryLength) memory
     unfolding read_answer
     length_refused h = untouched (rw (← l, turned legal h)) refl
 
     module _ (h : not legal ≡ false) where
-      pub text_refused : most_text < length text → AsMeant TextLength memory
+      pub text_refused : most_text < length text → AsMeant (Err TextLength) memory
       unfolding read_answer
       text_refused long = untouched (rw (← l, upright legal h, lt-leb (length text) most_text long)) refl
 

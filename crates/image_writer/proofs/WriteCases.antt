@@ -8,7 +8,8 @@ use lib.Seq.{sets}
 use borrow.Author.Tests.{le-leb, lt-leb}
 use Rattle.words.specs.Lengths.{legal_length}
 use Rattle.words.proofs.Cases.{turned, upright}
-use Rattle.answers.specs.declared.End.TheVariants.{MemoryLength, Room}
+use Rattle.std.specs.Prelude.{Ok, Err}
+use Rattle.answers.specs.declared.Refusal.TheVariants.{MemoryLength, Room}
 use Rattle.answers.specs.Ends.{is_done}
 use Rattle.image_meaning.specs.declared.Written.{Written}
 use Rattle.image_meaning.specs.Writing.{written, written_text, written_length, write_answer, room_after}
@@ -22,7 +23,7 @@ module _ (memory room : List ℕ) where
   untouched e h = (sym e, rw (e, h))
 
   module _ {legal : Bool} (l : legal ≡ legal_length (length memory)) where
-    pub length_refused : not legal ≡ true → AsMeant (record { end = MemoryLength; bytes = 0 }) room
+    pub length_refused : not legal ≡ true → AsMeant (record { end = Err MemoryLength; bytes = 0 }) room
     unfolding write_answer
     length_refused h = untouched (rw (← l, turned legal h)) refl
 
@@ -31,7 +32,7 @@ module _ (memory room : List ℕ) where
       is_legal = sym l ∙ upright legal h
 
       pub room_refused : length room < written_length (length memory) → AsMeant
-          (record { end = Room (written_length (length memory)); bytes = 0 }) room
+          (record { end = (Err (Room (written_length (length memory)))); bytes = 0 }) room
       unfolding write_answer
       room_refused short = untouched (rw (is_legal, lt-leb (written_length (length memory)) (length room) short)) refl
 

@@ -16,7 +16,8 @@ use Rattle.alu.proofs.Sums.{sum_lt, difference_lt}
 use Rattle.status.specs.Jump.{jump_cond}
 use Rattle.status.proofs.PswNumbers.{six_bits}
 use Rattle.blocks.specs.declared.memory.Store.{Store}
-use Rattle.blocks.specs.declared.memory.Store.TheVariants.{Nothing, Word}
+use Rattle.std.specs.Prelude.{Option, Some, None}
+use Rattle.blocks.specs.Memory.{storing}
 use Rattle.blocks.specs.Memory.{address, fetch, store, applied}
 use Rattle.blocks.proofs.MemoryWords as MemoryWords
 use Rattle.macro_meaning.specs.declared.Effect.{Effect}
@@ -30,9 +31,9 @@ use Rattle.macro_meaning.proofs.EveryInstruction.{OperandWords, Kinds, every}
 -- ---- what an instruction computes is a word
 
 -- the word that is stored; 0 stands for none
-abbrev stored_word : Store → ℕ
-stored_word Nothing = 0
-stored_word (Word a word) = word
+abbrev stored_word : Option Store → ℕ
+stored_word None = 0
+stored_word (storing a word) = word
 
 record WordsOut (e : Effect) : Type 0 where
   value : e.value < 2 ^ 32
@@ -106,10 +107,10 @@ module _ (s : Macro) (legal : Legal s) (request : Bool) where
       stored_or_not Words effect_is.sm effect_is.register s.machine.registers effect_is.value legal.words
       (λ h. set_words s.machine.registers effect_is.register effect_is.value words_out.value legal.words)
 
-  memory_after : (st : Store) → stored_word st < 2 ^ 32 → Words (applied st s.memory)
+  memory_after : (st : Option Store) → stored_word st < 2 ^ 32 → Words (applied st s.memory)
   unfolding store
-  memory_after Nothing h = legal.memory
-  memory_after (Word a word) h = set_words s.memory (address s.memory a) word h legal.memory
+  memory_after None h = legal.memory
+  memory_after (storing a word) h = set_words s.memory (address s.memory a) word h legal.memory
 
   pub legal_kept : Legal (next s request)
   legal_kept =

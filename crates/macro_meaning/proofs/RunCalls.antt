@@ -5,8 +5,8 @@ use mathlib.Core.Bool.{Bool, true, false, not}
 use mathlib.Core.List.{List}
 use lib.ListN.{length}
 use Rattle.words.proofs.Cases.{turned, upright}
-use Rattle.answers.specs.declared.End.{End}
-use Rattle.answers.specs.declared.End.TheVariants.{Done}
+use Rattle.answers.specs.Ends.{End}
+use Rattle.std.specs.Prelude.{Ok, Err}
 use Rattle.answers.specs.Ends.{is_done}
 use Rattle.macro_meaning.specs.declared.MacroState.{MacroState}
 use Rattle.macro_meaning.specs.declared.MacroMachine.{MacroMachine}
@@ -21,6 +21,6 @@ module _ (mem : List ℕ) (s : MacroState) (requests : List ℕ) {test : End} {d
 
   pub ran : not done ≡ false → {machine after : MacroMachine} {state : MacroState} {memory : List ℕ}
       → machine ≡ macro_unpacked s → after ≡ (steps mem machine requests).machine → memory ≡ (steps mem machine requests).memory → state ≡ macro_packed after
-      → run mem s requests ≡ record { answer = record { end = Done; steps = record { count = length requests }; state = state }; memory = memory }
+      → run mem s requests ≡ record { answer = record { end = Ok tt; steps = record { count = length requests }; state = state }; memory = memory }
   unfolding run
   ran h t r m g = rw (g, m, r, t, ← e, ← d, upright done h)

@@ -7,7 +7,8 @@ use mathlib.Core.Logic.{◌⊎◌, inl, inr}
 use lib.ListN.{length, get_or}
 use lib.Seq.{get_or-set_other}
 use Rattle.blocks.specs.declared.memory.Store.{Store}
-use Rattle.blocks.specs.declared.memory.Store.TheVariants.{Nothing, Word}
+use Rattle.std.specs.Prelude.{Option, Some, None}
+use Rattle.blocks.specs.Memory.{storing}
 use Rattle.blocks.specs.Memory.{address, store, applied}
 use Rattle.blocks.proofs.MemoryWords.{length_kept}
 use Rattle.macro_meaning.specs.declared.Effect.{Effect}
@@ -30,9 +31,9 @@ module _ (s : Macro) (request : Bool) where
   unfolding store
   at_most_one_word = rw memory_after (by_store (what_it_does s request).store, length_kept (what_it_does s request).store s.memory)
     where
-      by_store : (st : Store) → OnePlaceApart s.memory (applied st s.memory)
-      by_store Nothing = (0, λ j other. refl)
-      by_store (Word a word) = (address s.memory a, λ j other. get_or-set_other s.memory (address s.memory a) j word 0 other)
+      by_store : (st : Option Store) → OnePlaceApart s.memory (applied st s.memory)
+      by_store None = (0, λ j other. refl)
+      by_store (storing a word) = (address s.memory a, λ j other. get_or-set_other s.memory (address s.memory a) j word 0 other)
 
   -- A step that is none of ST, STI, CALL, INT and the interrupt step leaves memory as it is.
   pub only_five_store : (entry s request ≡ 7 → ⊥) → (entry s request ≡ 15 → ⊥) → (entry s request ≡ 1 → ⊥) → (entry s request ≡ 2 → ⊥)
@@ -40,14 +41,14 @@ module _ (s : Macro) (request : Bool) where
   unfolding jmp rti rtn gpsw ppsw ld shift arithmetic logic noop
   only_five_store not_st not_sti not_call not_int not_interrupt =
       memory_after
-      ∙ ap (λ (st : Store). applied st s.memory)
-      (every (entry s request) s.memory (reads s) (λ (e : Effect). e.store ≡ Nothing) nothing)
+      ∙ ap (λ (st : Option Store). applied st s.memory)
+      (every (entry s request) s.memory (reads s) (λ (e : Effect). e.store ≡ None) nothing)
     where
       no_st : (entry s request ≡ 7) ⊎ (entry s request ≡ 15) → ⊥
       no_st (inl e) = not_st e
       no_st (inr e) = not_sti e
 
-      nothing : Kinds (entry s request) s.memory (reads s) (λ (e : Effect). e.store ≡ Nothing)
+      nothing : Kinds (entry s request) s.memory (reads s) (λ (e : Effect). e.store ≡ None)
       nothing =
           record {
             jmp_kind = refl;

@@ -5,7 +5,8 @@ use Rattle.std.specs.Prelude.{ℕ, Bool, false}
 use Rattle.alu.specs.declared.AluOutput.{AluOutput}
 use Rattle.alu.specs.Alu.{sum, difference}
 use Rattle.status.specs.declared.psw.Psw.{Psw}
-use Rattle.blocks.specs.declared.memory.Store.TheVariants.{Nothing}
+use Rattle.std.specs.Prelude.{Option, Some, None}
+use Rattle.blocks.specs.Memory.{storing}
 use Rattle.macro_meaning.specs.declared.Operands.{Operands}
 use Rattle.macro_meaning.specs.declared.Effect.{Effect}
 
@@ -21,11 +22,11 @@ dec x = difference x 1 false
 
 -- no register is written and nothing is stored
 abbrev pub goes : Operands → Psw → ℕ → Effect
-goes o psw pc = record { sm = o.psw.sm; register = 0; value = 0; psw = psw; pc = pc; store = Nothing }
+goes o psw pc = record { sm = o.psw.sm; register = 0; value = 0; psw = psw; pc = pc; store = None }
 
 -- R[d] gets the value, and PC goes on
 abbrev pub put : Operands → ℕ → Psw → Effect
-put o value psw = record { sm = o.psw.sm; register = o.dest; value = value; psw = psw; pc = inc o.pc; store = Nothing }
+put o value psw = record { sm = o.psw.sm; register = o.dest; value = value; psw = psw; pc = inc o.pc; store = None }
 
 -- the PSW with other sm and ie
 abbrev pub mode : Psw → Bool → Bool → Psw

@@ -10,7 +10,8 @@ use Rattle.alu.specs.declared.AluOutput.{AluOutput}
 use Rattle.alu.specs.Alu.{add_without_carry, add_with_carry, sub_without_carry, sub_with_carry, bitwise_and, bitwise_or, bitwise_xor, bitwise_not}
 use Rattle.status.specs.Psw.{mk_psw, get_psw}
 use Rattle.status.specs.Jump.{jump_cond}
-use Rattle.blocks.specs.declared.memory.Store.TheVariants.{Nothing, Word}
+use Rattle.std.specs.Prelude.{Option, Some, None}
+use Rattle.blocks.specs.Memory.{storing}
 use Rattle.blocks.specs.Memory.{fetch}
 use Rattle.macro_meaning.specs.declared.Operands.{Operands}
 use Rattle.macro_meaning.specs.declared.Effect.{Effect}
@@ -29,7 +30,7 @@ call o =
       value = inc o.d;
       psw = o.psw;
       pc = add o.a o.imm;
-      store = Word o.d (inc o.pc);
+      store = storing o.d (inc o.pc);
     }
 
 -- RTN: pc' = M[R[d] - 1]; R[d]' = R[d] - 1
@@ -41,7 +42,7 @@ rtn mem o =
       value = dec o.d;
       psw = o.psw;
       pc = fetch mem (dec o.d);
-      store = Nothing;
+      store = None;
     }
 
 -- what INT and the interrupt step share: sm is set and ie cleared, then SSP moves under the new sm; `back` is pushed
@@ -54,7 +55,7 @@ interrupted o pc back =
       value = inc o.ssp;
       psw = new_psw;
       pc = pc;
-      store = Word o.ssp back;
+      store = storing o.ssp back;
     }
 
 -- INT: pc' = imm and 255; R[ssp]' = R[ssp] + 1; M[R[ssp]]' = pc + 1; ie' = 0; sm' = 1
@@ -74,7 +75,7 @@ rti mem o =
       value = dec o.ssp;
       psw = mode o.psw false true;
       pc = fetch mem (dec o.ssp);
-      store = Nothing;
+      store = None;
     }
 
 -- GPSW: R[d]' = psw; pc' = pc + 1
@@ -92,7 +93,7 @@ ld mem o offset = put o (fetch mem (add o.a offset)) o.psw
 -- ST and STI: M[R[a] + offset]' = R[d]; pc' = pc + 1
 unfoldable pub st : Operands → ℕ → Effect
 st o offset =
-    record { sm = o.psw.sm; register = 0; value = 0; psw = o.psw; pc = inc o.pc; store = Word (add o.a offset) o.d }
+    record { sm = o.psw.sm; register = 0; value = 0; psw = o.psw; pc = inc o.pc; store = storing (add o.a offset) o.d }
 
 -- LSL, LSR, ASR: R[d]' = the shifted word; c' = the bit shifted out; pc' = pc + 1
 unfoldable pub shift : Operands → ℕ → Bool → Effect

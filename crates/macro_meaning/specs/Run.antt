@@ -2,8 +2,9 @@
 -- counts steps alone: nothing of the micro level shows. Assumes nothing.
 use Rattle.std.specs.Prelude.{ℕ, Bool, cond, List, [], ◌∷◌, eqb, ltb, length}
 use Rattle.words.specs.Registers.{register}
-use Rattle.answers.specs.declared.End.{End}
-use Rattle.answers.specs.declared.End.TheVariants.{Done, Request}
+use Rattle.answers.specs.Ends.{End}
+use Rattle.std.specs.Prelude.{Ok, Err}
+use Rattle.answers.specs.declared.Refusal.TheVariants.{Request}
 use Rattle.answers.specs.Ends.{is_done}
 use Rattle.answers.specs.Places.{above, first_place}
 use Rattle.answers.specs.Tests.{lent_test}
@@ -22,7 +23,7 @@ unfoldable pub macro_test : ℕ → MacroState → List ℕ → End
 macro_test words s requests =
     let lent = lent_test words (register s.registers 0) in
     let first_bad = first_place (above most_step_request) requests in
-    cond (is_done lent) (cond (ltb first_bad (length requests)) (Request first_bad) Done) lent
+    cond (is_done lent) (cond (ltb first_bad (length requests)) (Err (Request first_bad)) (Ok tt)) lent
 
 -- the request line that a byte stands for
 abbrev pub up : ℕ → Bool
@@ -44,7 +45,7 @@ macro_refused end s mem = record { answer = record { end = end; steps = record {
 -- as many steps as bytes
 abbrev pub macro_done : ℕ → Macro → MacroCalled
 macro_done count after =
-    record { answer = record { end = Done; steps = record { count = count }; state = macro_packed after.machine }; memory = after.memory }
+    record { answer = record { end = Ok tt; steps = record { count = count }; state = macro_packed after.machine }; memory = after.memory }
 
 unfoldable pub run : List ℕ → MacroState → List ℕ → MacroCalled
 run mem s requests =

@@ -11,8 +11,9 @@ use lib.ListN.{length, take}
 use borrow.Author.Tests.{eqb-true}
 use Rattle.words.specs.Lengths.{legal_length}
 use Rattle.words.specs.Registers.{register}
-use Rattle.answers.specs.declared.End.{End}
-use Rattle.answers.specs.declared.End.TheVariants.{Done, MemoryLength, RegisterZero, ProgramLength, Microword, Outside, Request}
+use Rattle.answers.specs.Ends.{End}
+use Rattle.std.specs.Prelude.{Ok, Err}
+use Rattle.answers.specs.declared.Refusal.TheVariants.{MemoryLength, RegisterZero, ProgramLength, Microword, Outside, Request}
 use Rattle.answers.specs.Ends.{is_done, shown}
 use Rattle.answers.specs.Places.{first_place}
 use Rattle.answers.specs.Tests.{lent_test}
@@ -34,15 +35,15 @@ tests_never_8 words program s requests e =
     (ltb s.mpc (length program)) (ltb (first_place bad_request requests) (length requests)) e
   where
     first : Bool → Bool → End
-    first memory zero_register = cond memory (cond zero_register Done RegisterZero) MemoryLength
+    first memory zero_register = cond memory (cond zero_register (Ok tt) (Err RegisterZero)) (Err MemoryLength)
 
     lent : Bool → Bool → Bool → Bool → End
     lent memory zero_register size words_legal =
-        cond (is_done (first memory zero_register)) (cond size (cond words_legal (Microword (lowest_illegal program)) Done) ProgramLength)
+        cond (is_done (first memory zero_register)) (cond size (cond words_legal (Err (Microword (lowest_illegal program))) (Ok tt)) (Err ProgramLength))
         (first memory zero_register)
 
     go : (a b c d inside bad : Bool)
-        → (shown (cond (is_done (lent a b c d)) (cond inside (cond bad (Request (first_place bad_request requests)) Done) Outside) (lent a b c d))).number ≡ 8 → ⊥
+        → (shown (cond (is_done (lent a b c d)) (cond inside (cond bad (Err (Request (first_place bad_request requests))) (Ok tt)) (Err Outside)) (lent a b c d))).number ≡ 8 → ⊥
     go false b c d inside bad e = omega arith
     go true false c d inside bad e = omega arith
     go true true false d inside bad e = omega arith
@@ -72,7 +73,7 @@ module _ (program mem : List ℕ) (s : MicroState) (requests : List ℕ) where
       record {
         answer =
             record {
-              end = Done;
+              end = Ok tt;
               microcycles = called.answer.microcycles;
               steps = called.answer.steps;
               state = cond (eqb called.answer.microcycles.count 0) (micro_packed (micro_unpacked s)) called.answer.state;
@@ -98,6 +99,6 @@ module _ (program mem : List ℕ) (s : MicroState) (requests : List ℕ) where
       (as_run program mem s (take k requests) front
       ∙ ap (answered s) (cut program requests mem (micro_unpacked s) 0 0 k was.1 (sym (zero-add k)))
       ∙ ap (λ (state : MicroState). record {
-        answer = record { end = Done; microcycles = whole.ran.microcycles; steps = whole.ran.steps; state = state };
+        answer = record { end = Ok tt; microcycles = whole.ran.microcycles; steps = whole.ran.steps; state = state };
         memory = whole.memory;
       }) (state_then was.1))

@@ -5,7 +5,8 @@ use mathlib.Core.Path.{◌≡◌, refl, ap, ◌∙◌}
 use mathlib.Core.Bool.{false}
 use mathlib.Core.List.{List}
 use lib.ListN.{length}
-use Rattle.blocks.specs.declared.memory.Store.TheVariants.{Nothing}
+use Rattle.std.specs.Prelude.{Option, Some, None}
+use Rattle.blocks.specs.Memory.{storing}
 use Rattle.phase_meaning.specs.declared.PhaseMachine.{PhaseMachine}
 use Rattle.phase_meaning.specs.Phases.{phase_one, phase_two, phase_three, phase_four, next_mpc, phase_store}
 use Rattle.phase_meaning.specs.Call.{phase_done, stores, leaves as phase_leaves}
@@ -72,6 +73,6 @@ module _ (urom mem : List ℕ) (p : PhaseMachine) (begins : p.phase ≡ 0) (r₁
   unfolding phase_leaves phase_one phase_two
   not_refused_earlier = (rw begins, ap (phase_leaves (length urom)) is_one, ap (phase_leaves (length urom)) is_two)
 
-  pub nothing_stored_earlier : (stores p ≡ Nothing) × (stores first ≡ Nothing) × (stores second ≡ Nothing)
+  pub nothing_stored_earlier : (stores p ≡ None) × (stores first ≡ None) × (stores second ≡ None)
   unfolding stores phase_one phase_two
   nothing_stored_earlier = (rw begins, ap stores is_one, ap stores is_two)

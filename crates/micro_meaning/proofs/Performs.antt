@@ -21,7 +21,7 @@ use Rattle.micro_meaning.specs.declared.Read.{Read}
 use Rattle.micro_meaning.specs.Performing.{performed}
 
 pub in_all : (mem : List ℕ) (word : ℕ) (core : Core) (read : Read) (next : ℕ)
-    {m : Microword} {i : Instruction} {number a b mar input register : ℕ} {out : AluOutput} {system : SystemRegisters} {store : Store} {psw : Psw}
+    {m : Microword} {i : Instruction} {number a b mar input register : ℕ} {out : AluOutput} {system : SystemRegisters} {store : Option Store} {psw : Psw}
     → m ≡ fields word → i ≡ decoded core.ir → number ≡ mk_psw core.psw
     → a ≡ a_source m.srca read.srca read.dest read.ssp number core.pc → b ≡ b_source m.srcb read.srcb core.ivec i.imm
     → mar ≡ cond (m.pmux && m.mar) core.pc core.mar → input ≡ cond m.amux core.mbr a

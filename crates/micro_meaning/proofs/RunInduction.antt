@@ -5,7 +5,8 @@ use mathlib.Core.Path.{◌≡◌, refl, sym, subst}
 use mathlib.Core.Bool.{Bool, true, false}
 use mathlib.Core.List.{List, [], ◌∷◌}
 use mir.Val.{bool_byte as num}
-use Rattle.answers.specs.declared.End.TheVariants.{NextAddress}
+use Rattle.std.specs.Prelude.{Ok, Err}
+use Rattle.answers.specs.declared.Refusal.TheVariants.{NextAddress}
 use Rattle.blocks.specs.Memory.{applied}
 use Rattle.micro_meaning.specs.declared.MicroMachine.{MicroMachine}
 use Rattle.micro_meaning.specs.Microcycle.{microcycle, micro_store, leaves}
@@ -29,7 +30,7 @@ module _ (program mem : List ℕ) (s : MicroMachine) (done returns request : ℕ
   unfolding run_on
   goes_on h = rw h
 
-  pub stops : leaves program s request ≡ true → run_on program mem s done returns (request ∷ rest) ≡ ended NextAddress mem s done returns
+  pub stops : leaves program s request ≡ true → run_on program mem s done returns (request ∷ rest) ≡ ended (Err NextAddress) mem s done returns
   unfolding run_on
   stops h = rw h
 

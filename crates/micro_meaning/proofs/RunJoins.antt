@@ -8,7 +8,7 @@ use mathlib.Core.Bool.{Bool, true, false, false≢true}
 use mathlib.Core.List.{List, [], ◌∷◌, ◌++◌}
 use lib.ListN.{take}
 use mir.Val.{bool_byte as num}
-use Rattle.answers.specs.declared.End.TheVariants.{Done}
+use Rattle.std.specs.Prelude.{Ok, Err}
 use Rattle.answers.specs.Ends.{is_done}
 use Rattle.blocks.specs.Memory.{applied}
 use Rattle.micro_meaning.specs.declared.MicroMachine.{MicroMachine}
@@ -85,7 +85,7 @@ counts_added program (x ∷ xs) mem s done returns k n =
 
 -- the same run, with nothing refused
 abbrev pub as_done : RanOn → RanOn
-as_done r = ended Done r.memory r.ran.machine r.ran.microcycles.count r.ran.steps.count
+as_done r = ended (Ok tt) r.memory r.ran.machine r.ran.microcycles.count r.ran.steps.count
 
 -- a run that was cut after j microcycles is the run over its first j requests
 pub cut : (program requests mem : List ℕ) (s : MicroMachine) (done returns j : ℕ) → is_done (run_on program mem s done returns requests).ran.end ≡ false

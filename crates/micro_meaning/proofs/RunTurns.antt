@@ -7,7 +7,8 @@ use mathlib.Core.List.{List}
 use lib.ListN.{length, get_or, drop}
 use lib.Seq.{drop-cons, drop-length}
 use mir.Val.{bool_byte as num}
-use Rattle.answers.specs.declared.End.TheVariants.{Done, NextAddress}
+use Rattle.std.specs.Prelude.{Ok, Err}
+use Rattle.answers.specs.declared.Refusal.TheVariants.{NextAddress}
 use Rattle.blocks.specs.Memory.{applied}
 use Rattle.micro_meaning.specs.declared.MicroMachine.{MicroMachine}
 use Rattle.micro_meaning.specs.declared.Core.{Core}
@@ -48,7 +49,7 @@ module _ (program mem registers : List ℕ) (core : Core) (done returns : ℕ) (
       let fetch : at_fetch (machine registers' out.core) ≡ at_fetch next = ap at_fetch state in
       rw (drop-cons requests i 0 h, stays, state, memory, add-one i, fetch)
 
-  pub stop : out.leaves ≡ true → run_on program mem s done returns (drop i requests) ≡ ended NextAddress after (machine registers' out.core) done returns
+  pub stop : out.leaves ≡ true → run_on program mem s done returns (drop i requests) ≡ ended (Err NextAddress) after (machine registers' out.core) done returns
   unfolding run_on
   stop l =
       let goes = sym way ∙ l in
@@ -58,6 +59,6 @@ module _ (program mem registers : List ℕ) (core : Core) (done returns : ℕ) (
       rw (drop-cons requests i 0 h, goes, state, memory)
 
 pub over : (program mem : List ℕ) (s : MicroMachine) (done returns : ℕ) (requests : List ℕ) (i : ℕ) → i ≡ length requests
-    → run_on program mem s done returns (drop i requests) ≡ ended Done mem s done returns
+    → run_on program mem s done returns (drop i requests) ≡ ended (Ok tt) mem s done returns
 unfolding run_on
 over program mem s done returns requests i h = rw (h, drop-length)

@@ -7,8 +7,9 @@ use lib.Dec.{eqb, ltb}
 use lib.ListN.{length}
 use Rattle.words.specs.Lengths.{legal_length}
 use Rattle.words.specs.Registers.{register}
-use Rattle.answers.specs.declared.End.{End}
-use Rattle.answers.specs.declared.End.TheVariants.{Done, MemoryLength, RegisterZero, Outside, Request}
+use Rattle.answers.specs.Ends.{End}
+use Rattle.std.specs.Prelude.{Ok, Err}
+use Rattle.answers.specs.declared.Refusal.TheVariants.{MemoryLength, RegisterZero, Outside, Request}
 use Rattle.answers.specs.Ends.{shown, is_done}
 use Rattle.answers.specs.Places.{first_place}
 use Rattle.answers.specs.Tests.{lent_test}
@@ -25,7 +26,7 @@ lent_at_most_7 : (words register_0 : ℕ) → number (lent_test words register_0
 unfolding lent_test number
 lent_at_most_7 words register_0 = by_tests (legal_length words) (eqb register_0 0)
   where
-    by_tests : (a b : Bool) → number (cond a (cond b Done RegisterZero) MemoryLength) ≤ 7
+    by_tests : (a b : Bool) → number (cond a (cond b (Ok tt) (Err RegisterZero)) (Err MemoryLength)) ≤ 7
     by_tests true true = omega arith
     by_tests true false = omega arith
     by_tests false b = omega arith
@@ -46,7 +47,7 @@ at_most_7 words program s requests =
     lent : End
     lent = machine_test words (register s.registers 0) program
 
-    by_tests : (a b c : Bool) → number (cond a (cond b (cond c (Request (first_place bad_request requests)) Done) Outside) lent) ≤ 7
+    by_tests : (a b c : Bool) → number (cond a (cond b (cond c (Err (Request (first_place bad_request requests))) (Ok tt)) (Err Outside)) lent) ≤ 7
     by_tests true true true = omega arith
     by_tests true true false = omega arith
     by_tests true false c = omega arith

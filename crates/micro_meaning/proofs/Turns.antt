@@ -53,4 +53,4 @@ module _ (program mem registers : List ℕ) (core : Core) (request : ℕ) {word 
           ∙ same_state program mem s request
 
       memory : after ≡ applied (micro_store program s) mem
-      memory = ea ∙ ap (λ (d : Performed). applied d.store mem) as_one ∙ ap (λ (o : Store). applied o mem) (same_store program mem s request)
+      memory = ea ∙ ap (λ (d : Performed). applied d.store mem) as_one ∙ ap (λ (o : Option Store). applied o mem) (same_store program mem s request)

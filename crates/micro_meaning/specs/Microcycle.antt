@@ -25,7 +25,7 @@ mar_used urom s = mar_from_pc (word_of urom s) s.pc s.mar
 unfoldable pub next_address : List ℕ → MicroMachine → ℕ → ℕ
 next_address urom s request = new_mpc (word_of urom s) s.mpc s.ir (interrupt request) s.psw
 
-unfoldable pub micro_store : List ℕ → MicroMachine → Store
+unfoldable pub micro_store : List ℕ → MicroMachine → Option Store
 micro_store urom s = new_store (word_of urom s) (mar_used urom s) s.mbr
 
 unfoldable pub microcycle : List ℕ → List ℕ → MicroMachine → ℕ → MicroMachine

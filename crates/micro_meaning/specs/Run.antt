@@ -3,8 +3,9 @@
 use Rattle.std.specs.Prelude.{ℕ, ◌+◌, Bool, cond, not, ◌&&◌, List, [], ◌∷◌, eqb, ltb, length}
 use mir.Val.{bool_byte as num}
 use Rattle.words.specs.Registers.{register}
-use Rattle.answers.specs.declared.End.{End}
-use Rattle.answers.specs.declared.End.TheVariants.{Done, Outside, Request, NextAddress}
+use Rattle.answers.specs.Ends.{End}
+use Rattle.std.specs.Prelude.{Ok, Err}
+use Rattle.answers.specs.declared.Refusal.TheVariants.{Outside, Request, NextAddress}
 use Rattle.answers.specs.Ends.{is_done}
 use Rattle.answers.specs.Places.{above, first_place}
 use Rattle.control_store.specs.Sequencer.{fetch_address}
@@ -29,8 +30,8 @@ micro_test words program s requests =
     let first_bad = first_place bad_request requests in
     cond (is_done lent)
     (cond (ltb s.mpc (length program))
-    (cond (ltb first_bad (length requests)) (Request first_bad) Done)
-    Outside)
+    (cond (ltb first_bad (length requests)) (Err (Request first_bad)) (Ok tt))
+    (Err Outside))
     lent
 
 abbrev pub at_fetch : MicroMachine → Bool
@@ -50,10 +51,10 @@ ended end mem s done returns =
 
 -- the run from here over the requests that are left, with so many microcycles done and so many returns
 unfoldable pub run_on : List ℕ → List ℕ → MicroMachine → ℕ → ℕ → List ℕ → RanOn
-run_on program mem s done returns [] = ended Done mem s done returns
+run_on program mem s done returns [] = ended (Ok tt) mem s done returns
 run_on program mem s done returns (request ∷ rest) =
     let next = microcycle program mem s request in
-    cond (leaves program s request) (ended NextAddress mem s done returns)
+    cond (leaves program s request) (ended (Err NextAddress) mem s done returns)
     (run_on program (applied (micro_store program s) mem) next (done + 1) (returns + num (at_fetch next)) rest)
 
 -- what a call answers, and memory after it

@@ -1,7 +1,7 @@
 -- avm_phase: what it answers and leaves in every lent place. All but 2 is the phase level's. Assumes nothing.
 use Rattle.std.specs.Prelude.{ℕ, cond, not, List, [], ◌∷◌, eqb, length, get_or}
 use mir.Val.{bool_byte as num}
-use Rattle.answers.specs.declared.End.{End}
+use Rattle.answers.specs.Ends.{End}
 use Rattle.answers.specs.Ends.{is_done}
 use Rattle.phase_meaning.specs.declared.PhaseState.{PhaseState}
 use Rattle.phase_meaning.specs.Call.{PhaseCalled, phase_call}

@@ -5,8 +5,9 @@ use mathlib.Core.Bool.{Bool, true, false, not, cond, false≢true}
 use mathlib.Core.List.{List}
 use lib.ListN.{length}
 use Rattle.words.proofs.Cases.{turned, upright}
-use Rattle.answers.specs.declared.End.{End}
-use Rattle.answers.specs.declared.End.TheVariants.{Done, NextAddress}
+use Rattle.answers.specs.Ends.{End}
+use Rattle.std.specs.Prelude.{Ok, Err}
+use Rattle.answers.specs.declared.Refusal.TheVariants.{NextAddress}
 use Rattle.answers.specs.Ends.{is_done}
 use Rattle.blocks.specs.declared.memory.Store.{Store}
 use Rattle.blocks.specs.Memory.{applied}
@@ -23,13 +24,13 @@ module _ (program mem : List ℕ) (s : PhaseState) (request : ℕ) {test : End} 
   test_refused h = rw (← e, ← d, turned done h)
 
   module _ (h : not done ≡ false) {machine : PhaseMachine} {leaving : Bool} (t : machine ≡ phase_unpacked s) (l : leaving ≡ leaves (length program) machine) where
-    pub leaving_refused : leaving ≡ true → phase_call program mem s request ≡ phase_refused NextAddress s mem
+    pub leaving_refused : leaving ≡ true → phase_call program mem s request ≡ phase_refused (Err NextAddress) s mem
     unfolding phase_call
     leaving_refused b = rw (← e, ← d, upright done h, ← t, ← l, b)
 
-    pub went : leaving ≡ false → {next : PhaseMachine} {store : Store} {state : PhaseState} {after : List ℕ}
+    pub went : leaving ≡ false → {next : PhaseMachine} {store : Option Store} {state : PhaseState} {after : List ℕ}
         → next ≡ phase_done program mem machine request → store ≡ stores machine → after ≡ applied store mem → state ≡ phase_packed next
-        → phase_call program mem s request ≡ record { answer = record { end = Done; state = state }; memory = after }
+        → phase_call program mem s request ≡ record { answer = record { end = Ok tt; state = state }; memory = after }
     unfolding phase_call
     went b n o a g = rw (g, a, o, n, ← e, ← d, upright done h, ← t, ← l, b)
 
@@ -42,9 +43,9 @@ as_lent program mem s request h = go (is_done (phase_test (length mem) program s
     outcome : Bool → Bool → PhaseCalled
     outcome fine leaving =
         cond fine
-        (cond leaving (phase_refused NextAddress s mem)
+        (cond leaving (phase_refused (Err NextAddress) s mem)
         (record {
-          answer = record { end = Done; state = phase_packed (phase_done program mem (phase_unpacked s) request) };
+          answer = record { end = Ok tt; state = phase_packed (phase_done program mem (phase_unpacked s) request) };
           memory = applied (stores (phase_unpacked s)) mem;
         }))
         (phase_refused (phase_test (length mem) program s request) s mem)

@@ -8,8 +8,9 @@ use lib.ListN.{length}
 use borrow.Author.Tests.{le-leb, lt-leb}
 use Rattle.words.specs.Registers.{register}
 use Rattle.words.proofs.Cases.{turned, upright}
-use Rattle.answers.specs.declared.End.{End}
-use Rattle.answers.specs.declared.End.TheVariants.{Done, Microword, Outside, Request}
+use Rattle.answers.specs.Ends.{End}
+use Rattle.std.specs.Prelude.{Ok, Err}
+use Rattle.answers.specs.declared.Refusal.TheVariants.{Microword, Outside, Request}
 use Rattle.answers.specs.Ends.{is_done}
 use Rattle.control_store.specs.Codes.{legal_microword}
 use Rattle.control_store.specs.ControlStore.{machine_test}
@@ -23,20 +24,20 @@ module _ (words : ℕ) (program : List ℕ) (s : PhaseState) (request : ℕ) {le
   lent_refused h = rw (← e, ← d, turned done h)
 
   module _ (h : not done ≡ false) {legal : Bool} (l : legal ≡ legal_microword s.mir) where
-    pub mir_refused : not legal ≡ true → phase_test words program s request ≡ Microword (length program)
+    pub mir_refused : not legal ≡ true → phase_test words program s request ≡ Err (Microword (length program))
     unfolding phase_test
     mir_refused m = rw (← e, ← d, upright done h, ← l, turned legal m)
 
     module _ (m : not legal ≡ false) where
-      pub outside : not (ltb s.mpc (length program) && leb s.phase last_phase) ≡ true → phase_test words program s request ≡ Outside
+      pub outside : not (ltb s.mpc (length program) && leb s.phase last_phase) ≡ true → phase_test words program s request ≡ Err Outside
       unfolding phase_test
       outside i = rw (← e, ← d, upright done h, ← l, upright legal m, turned (ltb s.mpc (length program) && leb s.phase last_phase) i)
 
       module _ (i : not (ltb s.mpc (length program) && leb s.phase last_phase) ≡ false) where
-        pub request_refused : most_microcycle_request < request → phase_test words program s request ≡ Request 0
+        pub request_refused : most_microcycle_request < request → phase_test words program s request ≡ Err (Request 0)
         unfolding phase_test
         request_refused r = rw (← e, ← d, upright done h, ← l, upright legal m, upright (ltb s.mpc (length program) && leb s.phase last_phase) i, lt-leb request most_microcycle_request r)
 
-        pub nothing_refused : request ≤ most_microcycle_request → phase_test words program s request ≡ Done
+        pub nothing_refused : request ≤ most_microcycle_request → phase_test words program s request ≡ Ok tt
         unfolding phase_test
         nothing_refused r = rw (← e, ← d, upright done h, ← l, upright legal m, upright (ltb s.mpc (length program) && leb s.phase last_phase) i, le-leb request most_microcycle_request r)

@@ -1,11 +1,13 @@
 -- The call that does one phase: everything lent is tested, then the phase is done; a next address outside is refused (number 8) with
 -- everything as lent. Assumes nothing.
 use Rattle.std.specs.Prelude.{ℕ, Bool, cond, ◌&&◌, List, eqb, leb, length}
-use Rattle.answers.specs.declared.End.{End}
-use Rattle.answers.specs.declared.End.TheVariants.{Done, NextAddress}
+use Rattle.answers.specs.Ends.{End}
+use Rattle.std.specs.Prelude.{Ok, Err}
+use Rattle.answers.specs.declared.Refusal.TheVariants.{NextAddress}
 use Rattle.answers.specs.Ends.{is_done}
 use Rattle.blocks.specs.declared.memory.Store.{Store}
-use Rattle.blocks.specs.declared.memory.Store.TheVariants.{Nothing}
+use Rattle.std.specs.Prelude.{Option, Some, None}
+use Rattle.blocks.specs.Memory.{storing}
 use Rattle.blocks.specs.Memory.{applied}
 use Rattle.phase_meaning.specs.declared.PhaseMachine.{PhaseMachine}
 use Rattle.phase_meaning.specs.Phases.{phase_one, phase_two, phase_three, phase_four, next_mpc, phase_store}
@@ -23,8 +25,8 @@ phase_done program mem s request =
     (phase_four mem s)))
 
 -- only phase four stores
-unfoldable pub stores : PhaseMachine → Store
-stores s = cond (eqb s.phase last_phase) (phase_store s) Nothing
+unfoldable pub stores : PhaseMachine → Option Store
+stores s = cond (eqb s.phase last_phase) (phase_store s) None
 
 -- phase four would give a next address outside a microprogram of so many words
 unfoldable pub leaves : ℕ → PhaseMachine → Bool
@@ -44,9 +46,9 @@ phase_call program mem s request =
     let machine = phase_unpacked s in
     cond (is_done test)
     (cond (leaves (length program) machine)
-    (phase_refused NextAddress s mem)
+    (phase_refused (Err NextAddress) s mem)
     (record {
-      answer = record { end = Done; state = phase_packed (phase_done program mem machine request) };
+      answer = record { end = Ok tt; state = phase_packed (phase_done program mem machine request) };
       memory = applied (stores machine) mem;
     }))
     (phase_refused test s mem)

@@ -88,7 +88,7 @@ unfoldable pub next_mpc : PhaseMachine → ℕ
 next_mpc s = new_mpc (fields s.mir) s.mpc s.ir s.ireq s.psw
 
 -- what phase four stores: the old MBR at MAR, or nothing
-unfoldable pub phase_store : PhaseMachine → Store
+unfoldable pub phase_store : PhaseMachine → Option Store
 phase_store s = new_store (fields s.mir) s.mar s.mbr
 
 -- the result goes to its target (figures 5.9 and 5.10, pp. 113-114)

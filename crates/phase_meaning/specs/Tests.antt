@@ -1,8 +1,9 @@
 -- What a call tests of what it is lent, in the order of the scope's numbers. Assumes nothing.
 use Rattle.std.specs.Prelude.{ℕ, cond, ◌&&◌, List, ltb, leb, length}
 use Rattle.words.specs.Registers.{register}
-use Rattle.answers.specs.declared.End.{End}
-use Rattle.answers.specs.declared.End.TheVariants.{Done, Microword, Outside, Request}
+use Rattle.answers.specs.Ends.{End}
+use Rattle.std.specs.Prelude.{Ok, Err}
+use Rattle.answers.specs.declared.Refusal.TheVariants.{Microword, Outside, Request}
 use Rattle.answers.specs.Ends.{is_done}
 use Rattle.control_store.specs.Codes.{legal_microword}
 use Rattle.control_store.specs.ControlStore.{machine_test}
@@ -23,7 +24,7 @@ phase_test words program s request =
     cond (is_done lent)
     (cond (legal_microword s.mir)
     (cond (ltb s.mpc (length program) && leb s.phase last_phase)
-    (cond (leb request most_microcycle_request) Done (Request 0))
-    Outside)
-    (Microword (length program)))
+    (cond (leb request most_microcycle_request) (Ok tt) (Err (Request 0)))
+    (Err Outside))
+    (Err (Microword (length program))))
     lent

@@ -12,8 +12,8 @@ use lib.ListN.{length}
 use mir.Val.{bool_byte as num}
 use borrow.Author.Tests.{eq-eqb, le-ltb}
 use Rattle.words.specs.Registers.{register}
-use Rattle.answers.specs.declared.End.{End}
-use Rattle.answers.specs.declared.End.TheVariants.{Done}
+use Rattle.answers.specs.Ends.{End}
+use Rattle.std.specs.Prelude.{Ok, Err}
 use Rattle.answers.specs.Ends.{is_done}
 use Rattle.answers.specs.Places.{above, first_place}
 use Rattle.answers.specs.Tests.{lent_test}
@@ -86,7 +86,7 @@ module _ (mem : List ℕ) (s : MicroState) (requests : List ℕ) where
 
   -- ---- done alike
   module _ (good : is_done lent ≡ true) where
-    macro_tested : macro_test (length mem) (macro_seen s) steps_heard ≡ Done
+    macro_tested : macro_test (length mem) (macro_seen s) steps_heard ≡ Ok tt
     unfolding macro_test
     macro_tested = rw (good, all_lines requests mem (micro_unpacked s), le-ltb (length steps_heard) (length steps_heard) (le_refl (length steps_heard)))
 
@@ -107,14 +107,14 @@ module _ (mem : List ℕ) (s : MicroState) (requests : List ℕ) where
       abbrev whole : RanOn
       whole = run_on published mem (micro_unpacked s) 0 0 requests
 
-      micro_is : micro ≡ record { answer = record { end = Done; microcycles = whole.ran.microcycles; steps = whole.ran.steps; state = micro_packed whole.ran.machine }; memory = whole.memory }
+      micro_is : micro ≡ record { answer = record { end = Ok tt; microcycles = whole.ran.microcycles; steps = whole.ran.steps; state = micro_packed whole.ran.machine }; memory = whole.memory }
       micro_is = as_run published mem s requests tests ∙ rw (never_refused requests mem (micro_unpacked s) 0 0).ends
 
-      pub micro_done : micro.answer.end ≡ Done
+      pub micro_done : micro.answer.end ≡ Ok tt
       micro_done = ap (λ (c : MicroCalled). c.answer.end) micro_is
 
       pub record Agree : Type 0 where
-        pub done : macro.answer.end ≡ Done
+        pub done : macro.answer.end ≡ Ok tt
         pub steps : macro.answer.steps ≡ micro.answer.steps
         pub state : macro.answer.state ≡ macro_seen micro.answer.state
         pub memory : macro.memory ≡ micro.memory

@@ -6,7 +6,7 @@ use mathlib.Core.Path.{◌≡◌, refl, sym, ap, ◌∙◌}
 use mathlib.Core.List.{List, [], ◌∷◌}
 use lib.ListN.{length}
 use mir.Val.{bool_byte as num}
-use Rattle.answers.specs.declared.End.TheVariants.{Done}
+use Rattle.std.specs.Prelude.{Ok, Err}
 use Rattle.blocks.specs.Memory.{applied}
 use Rattle.micro_meaning.specs.declared.MicroMachine.{MicroMachine}
 use Rattle.micro_meaning.specs.Microcycle.{microcycle, micro_store}
@@ -27,7 +27,7 @@ abbrev pub from_here : List ℕ → MicroMachine → ℕ → ℕ → List ℕ �
 from_here mem s done returns requests = run_on published mem s done (returns + num (at_fetch s)) requests
 
 pub record Whole (done : ℕ) (requests : List ℕ) (r : RanOn) : Type 0 where
-  pub ends : r.ran.end ≡ Done
+  pub ends : r.ran.end ≡ Ok tt
   pub microcycles : r.ran.microcycles.count ≡ done + length requests
 
 pub never_refused : (requests mem : List ℕ) (s : MicroMachine) (done returns : ℕ) → Whole done requests (run_on published mem s done returns requests)

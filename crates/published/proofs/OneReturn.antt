@@ -11,7 +11,7 @@ use mathlib.Core.List.{List, [], ◌∷◌}
 use lib.Dec.{eqb}
 use lib.ListN.{length}
 use mir.Val.{bool_byte as num}
-use Rattle.answers.specs.declared.End.TheVariants.{Done}
+use Rattle.std.specs.Prelude.{Ok, Err}
 use Rattle.phase_meaning.specs.Phases.{interrupt}
 use Rattle.micro_meaning.specs.declared.MicroMachine.{MicroMachine}
 use Rattle.micro_meaning.specs.Run.{RanOn, at_fetch, run_on}
@@ -71,7 +71,7 @@ module _ (mem : List ℕ) (s : MicroMachine) (at_first : at_fetch s ≡ true) (r
   whole = run_on published mem s 0 0 (request ∷ rest)
 
   pub record OneStep : Type 0 where
-    pub not_refused : whole.ran.end ≡ Done
+    pub not_refused : whole.ran.end ≡ Ok tt
     pub microcycles : whole.ran.microcycles.count ≡ cycles (key mem s request)
     pub at_most_7 : whole.ran.microcycles.count ≤ 7
     pub one_return : whole.ran.steps.count ≡ 1

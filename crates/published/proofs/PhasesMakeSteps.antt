@@ -57,7 +57,7 @@ module _ (mem : List ℕ) (p : PhaseMachine) (begins : p.phase ≡ 0) (request :
   abbrev beside : PhaseMachine → Phased
   beside q = record { machine = q; memory = mem }
 
-  abbrev after : PhaseMachine → Store → Phased
+  abbrev after : PhaseMachine → Option Store → Phased
   after q st = record { machine = q; memory = applied st mem }
 
   abbrev on_by_one : Phased → Phased

@@ -8,7 +8,7 @@ use mathlib.Core.List.{List, map}
 use lib.ListN.{length, get_or}
 use lib.Seq.{ext_get_or}
 use Rattle.words.specs.Words.{field, bit}
-use Rattle.answers.specs.declared.End.TheVariants.{Done}
+use Rattle.std.specs.Prelude.{Ok, Err}
 use Rattle.answers.specs.Places.{first_place}
 use Rattle.control_store.specs.Microword.{fields}
 use Rattle.control_store.specs.Codes.{legal_microword}
@@ -20,7 +20,7 @@ pub read_back : map fields published ≡ listing
 unfolding field bit packed listing published
 read_back = refl
 
-pub passes : store_test published ≡ Done
+pub passes : store_test published ≡ Ok tt
 unfolding field bit packed listing published legal_microword legal_store_length store_test first_place
 passes = refl
 

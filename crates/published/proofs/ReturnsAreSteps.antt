@@ -10,7 +10,7 @@ use mathlib.Core.Bool.{Bool, true, false, not, false≢true}
 use mathlib.Core.List.{List, [], ◌∷◌}
 use lib.ListN.{length}
 use mir.Val.{bool_byte as num}
-use Rattle.answers.specs.declared.End.TheVariants.{Done}
+use Rattle.std.specs.Prelude.{Ok, Err}
 use Rattle.blocks.specs.Memory.{applied}
 use Rattle.phase_meaning.specs.Phases.{interrupt}
 use Rattle.micro_meaning.specs.declared.MicroMachine.{MicroMachine}
@@ -95,7 +95,7 @@ module _ (mem : List ℕ) (s : MicroMachine) (at_first : at_fetch s ≡ true) (r
   whole = run_on published mem s 0 0 requests
 
   pub record Steps : Type 0 where
-    pub not_refused : whole.ran.end ≡ Done
+    pub not_refused : whole.ran.end ≡ Ok tt
     pub microcycles : whole.ran.microcycles.count ≡ length requests
     pub each_return : at_fetch whole.ran.machine ≡ true
         → shows whole.memory whole.ran.machine ≡ steps_of (shows mem s) (heard published mem s requests)
