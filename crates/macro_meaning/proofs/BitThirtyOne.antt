@@ -7,7 +7,7 @@ use mathlib.Core.List.{List}
 use lib.Bits.{bit_xor, xor_shr, xor_mod, xor_zero_r}
 use Rattle.words.specs.Words.{field}
 use Rattle.words.specs.Fields.{opcode, dest, srca, srcb, imm}
-use Rattle.macro_meaning.specs.declared.MacroMachine.{MacroMachine}
+use Rattle.macro_meaning.specs.Machine.{MacroMachine}
 use Rattle.macro_meaning.specs.declared.Operands.{Operands}
 use Rattle.macro_meaning.specs.Instructions.{eint_key}
 use Rattle.macro_meaning.specs.Step.{operands, selected, step_by, step_on}

@@ -17,7 +17,6 @@ use Rattle.status.specs.Jump.{jump_cond}
 use Rattle.status.proofs.PswNumbers.{six_bits}
 use Rattle.blocks.specs.declared.memory.Store.{Store}
 use Rattle.std.specs.Prelude.{Option, Some, None}
-use Rattle.blocks.specs.Memory.{storing}
 use Rattle.blocks.specs.Memory.{address, fetch, store, applied}
 use Rattle.blocks.proofs.MemoryWords as MemoryWords
 use Rattle.macro_meaning.specs.declared.Effect.{Effect}
@@ -33,7 +32,7 @@ use Rattle.macro_meaning.proofs.EveryInstruction.{OperandWords, Kinds, every}
 -- the word that is stored; 0 stands for none
 abbrev stored_word : Option Store → ℕ
 stored_word None = 0
-stored_word (storing a word) = word
+stored_word (Some st) = st.word
 
 record WordsOut (e : Effect) : Type 0 where
   value : e.value < 2 ^ 32
@@ -110,7 +109,7 @@ module _ (s : Macro) (legal : Legal s) (request : Bool) where
   memory_after : (st : Option Store) → stored_word st < 2 ^ 32 → Words (applied st s.memory)
   unfolding store
   memory_after None h = legal.memory
-  memory_after (storing a word) h = set_words s.memory (address s.memory a) word h legal.memory
+  memory_after (Some st) h = set_words s.memory (address s.memory st.address) st.word h legal.memory
 
   pub legal_kept : Legal (next s request)
   legal_kept =

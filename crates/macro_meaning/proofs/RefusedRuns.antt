@@ -1,14 +1,20 @@
 -- A run that is refused leaves state and memory as lent, the PSW's other bits too.
 use Prim.Native.Nat.{ℕ}
-use mathlib.Core.Path.{◌≡◌}
+use mathlib.Core.Path.{◌≡◌, refl}
 use mathlib.Core.Bool.{false}
 use mathlib.Core.List.{List}
 use lib.ListN.{length}
-use Rattle.answers.specs.Ends.{is_done}
-use Rattle.macro_meaning.specs.declared.MacroState.{MacroState}
-use Rattle.macro_meaning.specs.Run.{macro_test, run}
+use Rattle.std.specs.Prelude.{Ok, Err}
+use Rattle.answers.specs.Ends.{End, is_done}
+use Rattle.macro_meaning.specs.Machine.{MacroState}
+use Rattle.macro_meaning.specs.Run.{MacroCalled, macro_test, macro_tested_first, run}
 
 pub refused_as_lent : (mem : List ℕ) (s : MacroState) (requests : List ℕ) → is_done (macro_test (length mem) s requests) ≡ false
-    → ((run mem s requests).answer.state ≡ s) × ((run mem s requests).memory ≡ mem)
+    → ((run mem s requests).state ≡ s) × ((run mem s requests).memory ≡ mem)
 unfolding run
-refused_as_lent mem s requests e = (rw e, rw e)
+refused_as_lent mem s requests = go (macro_test (length mem) s requests) _
+  where
+    go : (test : End) (rest : MacroCalled) → is_done test ≡ false
+        → ((macro_tested_first test s mem rest).state ≡ s) × ((macro_tested_first test s mem rest).memory ≡ mem)
+    go (Ok _) rest h = cc
+    go (Err refusal) rest h = (refl, refl)

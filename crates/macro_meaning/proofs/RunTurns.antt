@@ -5,7 +5,7 @@ use mathlib.Core.Path.{◌≡◌}
 use mathlib.Core.List.{List}
 use lib.ListN.{length, get_or, drop}
 use lib.Seq.{drop-cons, drop-length}
-use Rattle.macro_meaning.specs.declared.MacroMachine.{MacroMachine}
+use Rattle.macro_meaning.specs.Machine.{MacroMachine}
 use Rattle.macro_meaning.specs.Step.{step}
 use Rattle.macro_meaning.specs.Run.{up, steps}
 

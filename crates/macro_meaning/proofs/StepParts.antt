@@ -8,7 +8,7 @@ use Rattle.blocks.specs.Memory.{fetch, applied}
 use Rattle.macro_meaning.specs.declared.Operands.{Operands}
 use Rattle.macro_meaning.specs.declared.Effect.{Effect}
 use Rattle.macro_meaning.specs.Instructions.{effect}
-use Rattle.macro_meaning.specs.declared.MacroMachine.{MacroMachine}
+use Rattle.macro_meaning.specs.Machine.{MacroMachine}
 use Rattle.macro_meaning.specs.Step.{operands, selected, performed, step}
 
 -- an effect on the state

@@ -8,7 +8,6 @@ use lib.ListN.{length, get_or}
 use lib.Seq.{get_or-set_other}
 use Rattle.blocks.specs.declared.memory.Store.{Store}
 use Rattle.std.specs.Prelude.{Option, Some, None}
-use Rattle.blocks.specs.Memory.{storing}
 use Rattle.blocks.specs.Memory.{address, store, applied}
 use Rattle.blocks.proofs.MemoryWords.{length_kept}
 use Rattle.macro_meaning.specs.declared.Effect.{Effect}
@@ -33,7 +32,7 @@ module _ (s : Macro) (request : Bool) where
     where
       by_store : (st : Option Store) → OnePlaceApart s.memory (applied st s.memory)
       by_store None = (0, λ j other. refl)
-      by_store (storing a word) = (address s.memory a, λ j other. get_or-set_other s.memory (address s.memory a) j word 0 other)
+      by_store (Some st) = (address s.memory st.address, λ j other. get_or-set_other s.memory (address s.memory st.address) j st.word 0 other)
 
   -- A step that is none of ST, STI, CALL, INT and the interrupt step leaves memory as it is.
   pub only_five_store : (entry s request ≡ 7 → ⊥) → (entry s request ≡ 15 → ⊥) → (entry s request ≡ 1 → ⊥) → (entry s request ≡ 2 → ⊥)

@@ -5,8 +5,7 @@ use Rattle.std.specs.Prelude.{ℕ, Bool, false}
 use Rattle.alu.specs.declared.AluOutput.{AluOutput}
 use Rattle.alu.specs.Alu.{sum, difference}
 use Rattle.status.specs.declared.psw.Psw.{Psw}
-use Rattle.std.specs.Prelude.{Option, Some, None}
-use Rattle.blocks.specs.Memory.{storing}
+use Rattle.std.specs.Prelude.{None}
 use Rattle.macro_meaning.specs.declared.Operands.{Operands}
 use Rattle.macro_meaning.specs.declared.Effect.{Effect}
 

@@ -10,7 +10,7 @@ use Rattle.alu.specs.declared.AluOutput.{AluOutput}
 use Rattle.alu.specs.Alu.{add_without_carry, add_with_carry, sub_without_carry, sub_with_carry, bitwise_and, bitwise_or, bitwise_xor, bitwise_not}
 use Rattle.status.specs.Psw.{mk_psw, get_psw}
 use Rattle.status.specs.Jump.{jump_cond}
-use Rattle.std.specs.Prelude.{Option, Some, None}
+use Rattle.std.specs.Prelude.{None}
 use Rattle.blocks.specs.Memory.{storing}
 use Rattle.blocks.specs.Memory.{fetch}
 use Rattle.macro_meaning.specs.declared.Operands.{Operands}

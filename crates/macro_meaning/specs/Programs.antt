@@ -6,7 +6,7 @@ use Rattle.words.specs.Lengths.{legal_length}
 use Rattle.words.specs.Registers.{register, is_sup_reg}
 use Rattle.status.specs.declared.psw.Psw.{Psw}
 use Rattle.blocks.specs.Memory.{address, fetch}
-use Rattle.macro_meaning.specs.declared.MacroMachine.{MacroMachine}
+use Rattle.macro_meaning.specs.Machine.{MacroMachine}
 use Rattle.macro_meaning.specs.Effects.{add}
 use Rattle.macro_meaning.specs.Step.{Macro, selected, step}
 

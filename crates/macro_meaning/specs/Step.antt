@@ -8,7 +8,7 @@ use Rattle.blocks.specs.Memory.{fetch, applied}
 use Rattle.macro_meaning.specs.declared.Operands.{Operands}
 use Rattle.macro_meaning.specs.declared.Effect.{Effect}
 use Rattle.macro_meaning.specs.Instructions.{effect, eint_key}
-use Rattle.macro_meaning.specs.declared.MacroMachine.{MacroMachine}
+use Rattle.macro_meaning.specs.Machine.{MacroMachine}
 
 -- what the instruction word names: `GetSrcA`, `GetSrcB`, `GetDest`, `GetImm` (pp. 130-136) and the registers there
 abbrev pub operands : ℕ → MacroMachine → Operands

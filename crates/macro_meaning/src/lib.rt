@@ -1,28 +1,66 @@
-// Instruction steps: the state that a programmer sees, with memory beside it, what an instruction reads
-// and does, and what a run of steps answers. There is no function here: specs/ says what a step means,
-// proofs/ what follows from it, and macro_level does it.
+// Instruction steps: the state that a programmer sees, with memory beside it, and what an instruction
+// reads and does. Nothing is decided here, the two forms of the state go over into one another and no
+// more: specs/ says what a step means, proofs/ what follows from it, and macro_level does it.
 #![tactic(auto)]
 
-use answers::{End, Steps};
+ghost use Rattle.std.specs.Prelude.{◌≡◌};
+ghost use Rattle.macro_meaning.specs.Machine.{macro_unpacked, macro_packed};
+
 use blocks::memory::Store;
 use status::psw::Psw;
 
-// As a caller lends it: the PSW is a number.
+// What a programmer sees, with the PSW in one of its two forms.
 #[derive(Clone, Copy)]
-pub struct MacroState {
+pub struct MacroLevel<P> {
     pub registers: [u32; 32],
-    pub psw: u32,
+    pub psw: P,
     pub pc: u32,
     pub ivec: u32,
 }
 
+// As a caller lends it: the PSW is a number.
+pub type MacroState = MacroLevel<u32>;
+
 // As a step sees it: the PSW is its six bits.
-#[derive(Clone, Copy)]
-pub struct MacroMachine {
-    pub registers: [u32; 32],
-    pub psw: Psw,
-    pub pc: u32,
-    pub ivec: u32,
+pub type MacroMachine = MacroLevel<Psw>;
+
+// The PSW's other bits are dropped.
+impl From<MacroState> for MacroMachine {
+    ghost from_gives = { λ s m. m ≡ macro_unpacked s };
+
+    fn from(s: MacroState) -> MacroMachine {
+        let MacroLevel {
+            registers,
+            psw,
+            pc,
+            ivec,
+        } = s;
+        MacroLevel {
+            registers,
+            psw: Psw::from(psw),
+            pc,
+            ivec,
+        }
+    }
+}
+
+impl From<MacroMachine> for MacroState {
+    ghost from_gives = { λ m s. s ≡ macro_packed m };
+
+    fn from(m: MacroMachine) -> MacroState {
+        let MacroLevel {
+            registers,
+            psw,
+            pc,
+            ivec,
+        } = m;
+        MacroLevel {
+            registers,
+            psw: u32::from(psw),
+            pc,
+            ivec,
+        }
+    }
 }
 
 // What an instruction reads: the three registers that its word names, SSP, its immediate, the number
@@ -49,12 +87,5 @@ pub struct Effect {
     pub value: u32,
     pub psw: Psw,
     pub pc: u32,
-    pub store: Store,
-}
-
-#[derive(Clone, Copy)]
-pub struct MacroAnswer {
-    pub end: End,
-    pub steps: Steps,
-    pub state: MacroState,
+    pub store: Option<Store>,
 }
