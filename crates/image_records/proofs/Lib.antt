@@ -1,5 +1,4 @@
 -- Laws over the definitions, a file each.
-pub mod DigitValues
 pub mod FirstLine
 pub mod LineEnds
 pub mod Totals

@@ -13,20 +13,20 @@ use image_meaning::{Heading, Record};
 
 // One of two numbers that are both at hand, so that the compiler needs no branch: digits and letters
 // come in no order that a processor could foresee.
-fn either(first: bool, a: u16, b: u16) -> u16
+fn either(first: bool, a: u8, b: u8) -> u8
     ensures { result ≡ cond first a b }
 {
     if first { a } else { b }
 }
 
 // What a character counts as a hex digit; 16, which no digit does, where it is none.
-fn value(c: u8) -> u16
+#[tactic(auto, unfolding(image_meaning::specs::Digits::digit_value))]
+fn value(c: u8) -> u8
     ensures { result ≡ digit_value c }
 {
-    let code = c as u16 + 256;
-    let lower = either((97 <= c) & (c <= 102), (code - 87) % 256, 16);
-    let upper = either((65 <= c) & (c <= 70), (code - 55) % 256, lower);
-    either((48 <= c) & (c <= 57), (code - 48) % 256, upper)
+    let lower = either((b'a' <= c) & (c <= b'f'), c.wrapping_sub(87), 16);
+    let upper = either((b'A' <= c) & (c <= b'F'), c.wrapping_sub(55), lower);
+    either((b'0' <= c) & (c <= b'9'), c.wrapping_sub(48), upper)
 }
 
 // The byte of two digits at `at`; 256 where there is none.
@@ -37,9 +37,13 @@ fn byte(text: &[u8], at: usize) -> u16
     let Some([high, low, ..]) = text.get(at..) else {
         return 256;
     };
-    let high = value(*high);
-    let low = value(*low);
-    if high < 16 && low < 16 { 16 * high + low } else { 256 }
+    let high = value(*high) as u16;
+    let low = value(*low) as u16;
+    if high < 16 && low < 16 {
+        16 * high + low
+    } else {
+        256
+    }
 }
 
 // The word of eight digits at `at`, the most significant byte first.
@@ -74,7 +78,7 @@ fn sum_up(line: &[u8], count: u16) -> Option<u8>
 fn is_end(rest: &[u8]) -> bool
     ensures { result ≡ is_end rest.now }
 {
-    matches!(rest, [] | [10] | [13, 10])
+    matches!(rest, [] | [b'\n'] | [b'\r', b'\n'])
 }
 
 // Whether nothing but a line's end stands behind `from`.
@@ -105,7 +109,7 @@ pub fn heading(line: &[u8]) -> Heading
 pub fn record(line: &[u8]) -> Option<Record>
     ensures { result ≡ record_of line.now }
 {
-    if *line.first()? != 58 {
+    if *line.first()? != b':' {
         return None;
     }
     let heading = heading(line);
@@ -120,7 +124,7 @@ pub fn record(line: &[u8]) -> Option<Record>
 fn first_lf(text: &[u8]) -> Option<usize>
     ensures { result ≡ position (λ c. c == lf) text.now }
 {
-    text.iter().position(|c| *c == 10)
+    text.iter().position(|c| *c == b'\n')
 }
 
 // Where the first line of a text ends: behind its LF, or at the end of the text.
@@ -147,6 +151,7 @@ impl<'a> Iterator for Lines<'a> {
 
     ghost remaining = { item_count (λ s. lines_of s.rest.now) };
 
+    #[tactic(auto, using(crate::proofs::FirstLine::line_and_rest, crate::proofs::FirstLine::inside))]
     fn next(&mut self) -> Option<&'a [u8]> {
         if self.rest.is_empty() {
             return None;

@@ -1,5 +1,5 @@
 -- The sum of all bytes is that of the bytes left, added to the sum so far.
-use Rattle.std.proofs.Common.{◌≡◌, ◌+◌, ◌*◌, ◌-◌, ◌<◌, ◌≤◌, drop}
+use Rattle.std.proofs.Common.{◌≡◌, ◌+◌, ◌*◌, ◌-◌, drop}
 use Rattle.image_meaning.specs.Digits.{bytes_of}
 use Rattle.image_records.proofs.Totals.{total_from}
 use Rattle.image_records.proofs.sum_up.Given as goal
