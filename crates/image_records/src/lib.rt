@@ -19,7 +19,8 @@ fn either(first: bool, a: u8, b: u8) -> u8
     if first { a } else { b }
 }
 
-// What a character counts as a hex digit; 16, which no digit does, where it is none.
+// What a character counts as a hex digit; 16, which no digit does, where it is none. The definitions say
+// 16 too, and a number needs no branch.
 #[tactic(auto, unfolding(image_meaning::specs::Digits::digit_value))]
 fn value(c: u8) -> u8
     ensures { result ≡ digit_value c }
@@ -29,7 +30,8 @@ fn value(c: u8) -> u8
     either((b'0' <= c) & (c <= b'9'), c.wrapping_sub(48), upper)
 }
 
-// The byte of two digits at `at`; 256 where there is none.
+// The byte of two digits at `at`; 256 where there is none. The definitions say 256 too, so that every line
+// has a heading, of record form or not.
 #[tactic(auto, unfolding(image_meaning::specs::Digits::paired))]
 fn byte(text: &[u8], at: usize) -> u16
     ensures { result ≡ byte_of (drop at text.now) }
