@@ -6,51 +6,25 @@ use native.Mathlib.Omega.{arith}
 use mathlib.Core.Path.{◌≡◌, refl, sym, ap, subst, ◌∙◌}
 use mathlib.Core.Bool.{Bool, true, false, cond}
 use mathlib.Core.List.{List}
-use lib.Dec.{eqb, ltb}
+use lib.Dec.{eqb}
 use lib.ListN.{length, take}
 use borrow.Author.Tests.{eqb-true}
-use Rattle.words.specs.Lengths.{legal_length}
-use Rattle.words.specs.Registers.{register}
 use Rattle.answers.specs.Ends.{End}
 use Rattle.std.specs.Prelude.{Ok, Err}
-use Rattle.answers.specs.declared.Refusal.TheVariants.{MemoryLength, RegisterZero, ProgramLength, Microword, Outside, Request}
 use Rattle.answers.specs.Ends.{is_done, shown}
-use Rattle.answers.specs.Places.{first_place}
-use Rattle.answers.specs.Tests.{lent_test}
 use Rattle.answers.proofs.FirstPlace.{none_in_front}
-use Rattle.control_store.specs.ControlStore.{legal_store_length, lowest_illegal, store_test}
-use Rattle.control_store.specs.ControlStore.{machine_test}
 use Rattle.micro_meaning.specs.declared.MicroState.{MicroState}
 use Rattle.micro_meaning.specs.Machine.{micro_unpacked, micro_packed}
 use Rattle.micro_meaning.specs.Run.{RanOn, MicroCalled, bad_request, micro_test, run_on, answered, micro_refused, run}
 use Rattle.micro_meaning.proofs.RunJoins.{cut, unmoved}
 use Rattle.micro_meaning.proofs.RunTests.{Fine, fine}
+use Rattle.micro_meaning.proofs.TestNumbers.{at_most_7}
 use Rattle.micro_meaning.proofs.RunsInARow.{as_run}
 
--- no test answers 8
-tests_never_8 : (words : ℕ) (program : List ℕ) (s : MicroState) (requests : List ℕ) → (shown (micro_test words program s requests)).number ≡ 8 → ⊥
-unfolding micro_test machine_test lent_test store_test
-tests_never_8 words program s requests e =
-    go (legal_length words) (eqb (register s.registers 0) 0) (legal_store_length (length program)) (ltb (lowest_illegal program) (length program))
-    (ltb s.mpc (length program)) (ltb (first_place bad_request requests) (length requests)) e
-  where
-    first : Bool → Bool → End
-    first memory zero_register = cond memory (cond zero_register (Ok tt) (Err RegisterZero)) (Err MemoryLength)
-
-    lent : Bool → Bool → Bool → Bool → End
-    lent memory zero_register size words_legal =
-        cond (is_done (first memory zero_register)) (cond size (cond words_legal (Err (Microword (lowest_illegal program))) (Ok tt)) (Err ProgramLength))
-        (first memory zero_register)
-
-    go : (a b c d inside bad : Bool)
-        → (shown (cond (is_done (lent a b c d)) (cond inside (cond bad (Err (Request (first_place bad_request requests))) (Ok tt)) (Err Outside)) (lent a b c d))).number ≡ 8 → ⊥
-    go false b c d inside bad e = omega arith
-    go true false c d inside bad e = omega arith
-    go true true false d inside bad e = omega arith
-    go true true true true inside bad e = omega arith
-    go true true true false false bad e = omega arith
-    go true true true false true true e = omega arith
-    go true true true false true false e = omega arith
+-- a run that answers 8 is not done
+refused_with_8 : (end : End) → (shown end).number ≡ 8 → is_done end ≡ false
+refused_with_8 (Ok _) e = absurd (omega arith)
+refused_with_8 (Err refusal) e = refl
 
 module _ (program mem : List ℕ) (s : MicroState) (requests : List ℕ) where
   abbrev whole : RanOn
@@ -64,8 +38,8 @@ module _ (program mem : List ℕ) (s : MicroState) (requests : List ℕ) where
       by_test : (b : Bool) → is_done (micro_test (length mem) program s requests) ≡ b
           → (shown (cond b (answered s whole) (micro_refused (micro_test (length mem) program s requests) s mem)).answer.end).number ≡ 8
           → Fine (length mem) program s requests × (is_done whole.ran.end ≡ false)
-      by_test true t e = (fine (length mem) program s requests t, ap (λ (n : ℕ). eqb n 0) e)
-      by_test false t e = absurd (tests_never_8 (length mem) program s requests e)
+      by_test true t e = (fine (length mem) program s requests t, refused_with_8 whole.ran.end e)
+      by_test false t e = let below = at_most_7 (length mem) program s requests in absurd (omega (arith, below))
 
   -- the run's own state is the one that the shorter call gives
   abbrev shorter : MicroCalled → MicroCalled
@@ -81,10 +55,10 @@ module _ (program mem : List ℕ) (s : MicroState) (requests : List ℕ) where
         memory = called.memory;
       }
 
-  state_then : is_done whole.ran.end ≡ false → micro_packed whole.ran.machine ≡ (shorter (answered s whole)).answer.state
+  state_then : is_done whole.ran.end ≡ false → micro_packed whole.ran.state ≡ (shorter (answered s whole)).answer.state
   state_then d = rw d (by_count (eqb whole.ran.microcycles.count 0) refl)
     where
-      by_count : (b : Bool) → eqb whole.ran.microcycles.count 0 ≡ b → micro_packed whole.ran.machine ≡ cond b (micro_packed (micro_unpacked s)) (cond b s (micro_packed whole.ran.machine))
+      by_count : (b : Bool) → eqb whole.ran.microcycles.count 0 ≡ b → micro_packed whole.ran.state ≡ cond b (micro_packed (micro_unpacked s)) (cond b s (micro_packed whole.ran.state))
       by_count true e = ap micro_packed (unmoved program requests mem (micro_unpacked s) 0 0 (eqb-true whole.ran.microcycles.count 0 e))
       by_count false e = refl
 

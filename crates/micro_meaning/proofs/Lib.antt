@@ -5,8 +5,6 @@ pub mod Performs
 pub mod RunInduction
 pub mod RunKeeps
 pub mod RunJoins
-pub mod Turns
-pub mod RunTurns
 pub mod RunTests
 pub mod RunCalls
 pub mod RunsInARow

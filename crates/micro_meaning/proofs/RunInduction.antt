@@ -5,7 +5,7 @@ use mathlib.Core.Path.{◌≡◌, refl, sym, subst}
 use mathlib.Core.Bool.{Bool, true, false}
 use mathlib.Core.List.{List, [], ◌∷◌}
 use mir.Val.{bool_byte as num}
-use Rattle.std.specs.Prelude.{Ok, Err}
+use Rattle.std.specs.Prelude.{Err}
 use Rattle.answers.specs.declared.Refusal.TheVariants.{NextAddress}
 use Rattle.blocks.specs.Memory.{applied}
 use Rattle.micro_meaning.specs.declared.MicroMachine.{MicroMachine}
@@ -20,7 +20,7 @@ Next program P mem s done returns request =
 
 -- the same where a run ended
 abbrev pub EndOf : (List ℕ → MicroMachine → ℕ → ℕ → Type 0) → RanOn → Type 0
-EndOf P r = P r.memory r.ran.machine r.ran.microcycles.count r.ran.steps.count
+EndOf P r = P r.memory r.ran.state r.ran.microcycles.count r.ran.steps.count
 
 module _ (program mem : List ℕ) (s : MicroMachine) (done returns request : ℕ) (rest : List ℕ) where
   pub goes_on : leaves program s request ≡ false

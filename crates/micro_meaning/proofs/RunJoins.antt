@@ -8,7 +8,7 @@ use mathlib.Core.Bool.{Bool, true, false, false≢true}
 use mathlib.Core.List.{List, [], ◌∷◌, ◌++◌}
 use lib.ListN.{take}
 use mir.Val.{bool_byte as num}
-use Rattle.std.specs.Prelude.{Ok, Err}
+use Rattle.std.specs.Prelude.{Ok}
 use Rattle.answers.specs.Ends.{is_done}
 use Rattle.blocks.specs.Memory.{applied}
 use Rattle.micro_meaning.specs.declared.MicroMachine.{MicroMachine}
@@ -19,7 +19,7 @@ use Rattle.micro_meaning.proofs.RunKeeps.{count_at_least}
 
 -- a run that goes on where another ended
 abbrev pub on_from : List ℕ → RanOn → List ℕ → RanOn
-on_from program r requests = run_on program r.memory r.ran.machine r.ran.microcycles.count r.ran.steps.count requests
+on_from program r requests = run_on program r.memory r.ran.state r.ran.microcycles.count r.ran.steps.count requests
 
 pub joined : (program xs ys mem : List ℕ) (s : MicroMachine) (done returns : ℕ) → is_done (run_on program mem s done returns xs).ran.end ≡ true
     → run_on program mem s done returns (xs ++ ys) ≡ on_from program (run_on program mem s done returns xs) ys
@@ -54,7 +54,7 @@ counted done returns r =
             end = r.ran.end;
             microcycles = record { count = done + r.ran.microcycles.count };
             steps = record { count = returns + r.ran.steps.count };
-            machine = r.ran.machine;
+            state = r.ran.state;
           };
       memory = r.memory;
     }
@@ -85,7 +85,7 @@ counts_added program (x ∷ xs) mem s done returns k n =
 
 -- the same run, with nothing refused
 abbrev pub as_done : RanOn → RanOn
-as_done r = ended (Ok tt) r.memory r.ran.machine r.ran.microcycles.count r.ran.steps.count
+as_done r = ended (Ok tt) r.memory r.ran.state r.ran.microcycles.count r.ran.steps.count
 
 -- a run that was cut after j microcycles is the run over its first j requests
 pub cut : (program requests mem : List ℕ) (s : MicroMachine) (done returns j : ℕ) → is_done (run_on program mem s done returns requests).ran.end ≡ false
@@ -126,13 +126,13 @@ cut program (x ∷ xs) mem s done returns j d e =
 
 -- where no microcycle was done, the machine did not move
 pub unmoved : (program requests mem : List ℕ) (s : MicroMachine) (done returns : ℕ) → (run_on program mem s done returns requests).ran.microcycles.count ≡ done
-    → (run_on program mem s done returns requests).ran.machine ≡ s
+    → (run_on program mem s done returns requests).ran.state ≡ s
 unfolding run_on
 unmoved program [] mem s done returns e = refl
 unmoved program (x ∷ xs) mem s done returns e = by_case (leaves program s x) refl
   where
-    by_case : (b : Bool) → leaves program s x ≡ b → (run_on program mem s done returns (x ∷ xs)).ran.machine ≡ s
-    by_case true h = ap (λ (r : RanOn). r.ran.machine) (stops program mem s done returns x xs h)
+    by_case : (b : Bool) → leaves program s x ≡ b → (run_on program mem s done returns (x ∷ xs)).ran.state ≡ s
+    by_case true h = ap (λ (r : RanOn). r.ran.state) (stops program mem s done returns x xs h)
     by_case false h =
         let same = sym (ap (λ (r : RanOn). r.ran.microcycles.count) (goes_on program mem s done returns x xs h)) ∙ e in
         let more = count_at_least program xs (applied (micro_store program s) mem) (microcycle program mem s x) (done + 1) (returns + num (at_fetch (microcycle program mem s x))) in

@@ -45,17 +45,17 @@ module _ (program requests mem : List ℕ) (s : MicroMachine) (done returns : �
       kept_through program (λ mem' s' k n. length mem' ≡ length mem)
       (λ mem' s' k n r h e. memory_length_kept (micro_store program s') mem' ∙ e) requests mem s done returns refl
 
-  pub register_0 : register (run_on program mem s done returns requests).ran.machine.registers 0 ≡ register s.registers 0
+  pub register_0 : register (run_on program mem s done returns requests).ran.state.registers 0 ≡ register s.registers 0
   register_0 =
       kept_through program (λ mem' s' k n. register s'.registers 0 ≡ register s.registers 0)
       (λ mem' s' k n r h e. register_0_kept program mem' s' r ∙ e) requests mem s done returns refl
 
-  pub registers : length (run_on program mem s done returns requests).ran.machine.registers ≡ length s.registers
+  pub registers : length (run_on program mem s done returns requests).ran.state.registers ≡ length s.registers
   registers =
       kept_through program (λ mem' s' k n. length s'.registers ≡ length s.registers)
       (λ mem' s' k n r h e. registers_kept program mem' s' r ∙ e) requests mem s done returns refl
 
-  pub mpc_inside : s.mpc < length program → (run_on program mem s done returns requests).ran.machine.mpc < length program
+  pub mpc_inside : s.mpc < length program → (run_on program mem s done returns requests).ran.state.mpc < length program
   mpc_inside h =
       kept_through program (λ mem' s' k n. s'.mpc < length program) (λ mem' s' k n r l e. stays_inside program mem' s' r l) requests mem s done returns h
 
@@ -76,7 +76,7 @@ module _ (program mem : List ℕ) (s : MicroState) (requests : List ℕ) where
   called fine = cond fine (answered s (run_on program mem (micro_unpacked s) 0 0 requests)) (micro_refused (micro_test (length mem) program s requests) s mem)
 
   -- what holds of the state as lent and of the one that the run gives holds of the one that is answered
-  state_kept : (R : MicroState → Type 0) → R s → R (micro_packed (run_on program mem (micro_unpacked s) 0 0 requests).ran.machine) → R (run program mem s requests).answer.state
+  state_kept : (R : MicroState → Type 0) → R s → R (micro_packed (run_on program mem (micro_unpacked s) 0 0 requests).ran.state) → R (run program mem s requests).answer.state
   unfolding run
   state_kept R lent ran = by_test (is_done (micro_test (length mem) program s requests))
     where
@@ -84,7 +84,7 @@ module _ (program mem : List ℕ) (s : MicroState) (requests : List ℕ) where
       by_test false = lent
       by_test true = by_cut (untouched (run_on program mem (micro_unpacked s) 0 0 requests).ran)
         where
-          by_cut : (b : Bool) → R (cond b s (micro_packed (run_on program mem (micro_unpacked s) 0 0 requests).ran.machine))
+          by_cut : (b : Bool) → R (cond b s (micro_packed (run_on program mem (micro_unpacked s) 0 0 requests).ran.state))
           by_cut true = lent
           by_cut false = ran
 
@@ -108,7 +108,7 @@ module _ (program mem : List ℕ) (s : MicroState) (requests : List ℕ) where
   call_mpc_inside h = state_kept (λ (t : MicroState). t.mpc < length program) h (mpc_inside program requests mem (micro_unpacked s) 0 0 h)
 
   pub call_six_bits : s.psw < 64 → (run program mem s requests).answer.state.psw < 64
-  call_six_bits h = state_kept (λ (t : MicroState). t.psw < 64) h (six_bits (run_on program mem (micro_unpacked s) 0 0 requests).ran.machine.psw)
+  call_six_bits h = state_kept (λ (t : MicroState). t.psw < 64) h (six_bits (run_on program mem (micro_unpacked s) 0 0 requests).ran.state.psw)
 
   pub call_returns_at_most : (run program mem s requests).answer.steps.count ≤ (run program mem s requests).answer.microcycles.count
   unfolding run

@@ -57,7 +57,7 @@ done_call program mem s requests d = by_test (is_done (micro_test (length mem) p
 abbrev done_answer : RanOn → MicroCalled
 done_answer r =
     record {
-      answer = record { end = r.ran.end; microcycles = r.ran.microcycles; steps = r.ran.steps; state = micro_packed r.ran.machine };
+      answer = record { end = r.ran.end; microcycles = r.ran.microcycles; steps = r.ran.steps; state = micro_packed r.ran.state };
       memory = r.memory;
     }
 
@@ -97,7 +97,7 @@ module _ (program mem : List ℕ) (s : MicroState) (xs ys : List ℕ) (six : s.p
   first_run = run_on program mem (micro_unpacked s) 0 0 xs
 
   abbrev second_run : RanOn
-  second_run = run_on program first_run.memory first_run.ran.machine 0 0 ys
+  second_run = run_on program first_run.memory first_run.ran.state 0 0 ys
 
   tests_of_both : Fine (length mem) program s (xs ++ ys)
   tests_of_both =
@@ -107,11 +107,11 @@ module _ (program mem : List ℕ) (s : MicroState) (xs ys : List ℕ) (six : s.p
         requests_good = none_in_join bad_request xs ys d.tests.requests_good good;
       }
 
-  tests_of_second : Fine (length first_run.memory) program (micro_packed first_run.ran.machine) ys
+  tests_of_second : Fine (length first_run.memory) program (micro_packed first_run.ran.state) ys
   tests_of_second =
       record {
         lent =
-            ap (λ (words : ℕ). is_done (machine_test words (register first_run.ran.machine.registers 0) program)) (memory_length program xs mem (micro_unpacked s) 0 0)
+            ap (λ (words : ℕ). is_done (machine_test words (register first_run.ran.state.registers 0) program)) (memory_length program xs mem (micro_unpacked s) 0 0)
             ∙ ap (λ (zero : ℕ). is_done (machine_test (length mem) zero program)) (register_0 program xs mem (micro_unpacked s) 0 0)
             ∙ d.tests.lent;
         inside = mpc_inside program xs mem (micro_unpacked s) 0 0 d.tests.inside;
@@ -123,27 +123,27 @@ module _ (program mem : List ℕ) (s : MicroState) (xs ys : List ℕ) (six : s.p
       as_run program mem s (xs ++ ys) tests_of_both
       ∙ ap (answered s)
       (joined program xs ys mem (micro_unpacked s) 0 0 d.done
-      ∙ sym (ap (λ (k : ℕ). run_on program first_run.memory first_run.ran.machine k (first_run.ran.steps.count + 0) ys) (add-zero first_run.ran.microcycles.count)
-      ∙ ap (λ (n : ℕ). run_on program first_run.memory first_run.ran.machine first_run.ran.microcycles.count n ys) (add-zero first_run.ran.steps.count))
-      ∙ counts_added program ys first_run.memory first_run.ran.machine first_run.ran.microcycles.count first_run.ran.steps.count 0 0)
+      ∙ sym (ap (λ (k : ℕ). run_on program first_run.memory first_run.ran.state k (first_run.ran.steps.count + 0) ys) (add-zero first_run.ran.microcycles.count)
+      ∙ ap (λ (n : ℕ). run_on program first_run.memory first_run.ran.state first_run.ran.microcycles.count n ys) (add-zero first_run.ran.steps.count))
+      ∙ counts_added program ys first_run.memory first_run.ran.state first_run.ran.microcycles.count first_run.ran.steps.count 0 0)
 
-  second : run program first_run.memory (micro_packed first_run.ran.machine) ys ≡ answered (micro_packed first_run.ran.machine) second_run
+  second : run program first_run.memory (micro_packed first_run.ran.state) ys ≡ answered (micro_packed first_run.ran.state) second_run
   second =
-      as_run program first_run.memory (micro_packed first_run.ran.machine) ys tests_of_second
-      ∙ ap (λ (m : MicroMachine). answered (micro_packed first_run.ran.machine) (run_on program first_run.memory m 0 0 ys)) (unpacked_again first_run.ran.machine)
+      as_run program first_run.memory (micro_packed first_run.ran.state) ys tests_of_second
+      ∙ ap (λ (m : MicroMachine). answered (micro_packed first_run.ran.state) (run_on program first_run.memory m 0 0 ys)) (unpacked_again first_run.ran.state)
 
   first : run program mem s xs ≡ done_answer first_run
   first = as_run program mem s xs d.tests ∙ done_answered s first_run d.done
 
-  state_of_both : cond (untouched (counted first_run.ran.microcycles.count first_run.ran.steps.count second_run).ran) s (micro_packed second_run.ran.machine)
-      ≡ cond (untouched second_run.ran) (micro_packed first_run.ran.machine) (micro_packed second_run.ran.machine)
+  state_of_both : cond (untouched (counted first_run.ran.microcycles.count first_run.ran.steps.count second_run).ran) s (micro_packed second_run.ran.state)
+      ≡ cond (untouched second_run.ran) (micro_packed first_run.ran.state) (micro_packed second_run.ran.state)
   state_of_both =
-      same_state s (micro_packed first_run.ran.machine) (micro_packed second_run.ran.machine) first_run.ran.microcycles.count
+      same_state s (micro_packed first_run.ran.state) (micro_packed second_run.ran.state) first_run.ran.microcycles.count
       second_run.ran.microcycles.count (is_done second_run.ran.end)
-      (λ none. ap micro_packed (unmoved program ys first_run.memory first_run.ran.machine 0 0 none))
+      (λ none. ap micro_packed (unmoved program ys first_run.memory first_run.ran.state 0 0 none))
       (λ none. ap micro_packed (unmoved program xs mem (micro_unpacked s) 0 0 none) ∙ packed_again s six)
 
-  together : run program mem s (xs ++ ys) ≡ added (done_answer first_run) (answered (micro_packed first_run.ran.machine) second_run)
+  together : run program mem s (xs ++ ys) ≡ added (done_answer first_run) (answered (micro_packed first_run.ran.state) second_run)
   together =
       both
       ∙ ap (λ (state : MicroState). record {

@@ -9,8 +9,9 @@ use Rattle.words.specs.Lengths.{legal_length}
 use Rattle.words.specs.Registers.{register}
 use Rattle.answers.specs.Ends.{End}
 use Rattle.std.specs.Prelude.{Ok, Err}
+use Rattle.std.specs.Result.{result_and}
 use Rattle.answers.specs.declared.Refusal.TheVariants.{MemoryLength, RegisterZero, Outside, Request}
-use Rattle.answers.specs.Ends.{shown, is_done}
+use Rattle.answers.specs.Ends.{shown}
 use Rattle.answers.specs.Places.{first_place}
 use Rattle.answers.specs.Tests.{lent_test}
 use Rattle.control_store.specs.ControlStore.{store_test}
@@ -33,22 +34,21 @@ lent_at_most_7 words register_0 = by_tests (legal_length words) (eqb register_0 
 
 machine_at_most_7 : (words register_0 : ℕ) (program : List ℕ) → number (machine_test words register_0 program) ≤ 7
 unfolding machine_test number
-machine_at_most_7 words register_0 program = by_test (is_done (lent_test words register_0))
+machine_at_most_7 words register_0 program = go (lent_test words register_0) (lent_at_most_7 words register_0)
   where
-    by_test : (a : Bool) → number (cond a (store_test program) (lent_test words register_0)) ≤ 7
-    by_test true = let h = at_most_5 program in omega (arith, h)
-    by_test false = lent_at_most_7 words register_0
+    go : (lent : End) → number lent ≤ 7 → number (result_and lent (store_test program)) ≤ 7
+    go (Ok _) h = let fits = at_most_5 program in omega (arith, fits)
+    go (Err refusal) h = h
 
 pub at_most_7 : (words : ℕ) (program : List ℕ) (s : MicroState) (requests : List ℕ) → (shown (micro_test words program s requests)).number ≤ 7
 unfolding micro_test number
 at_most_7 words program s requests =
-    by_tests (is_done lent) (ltb s.mpc (length program)) (ltb (first_place bad_request requests) (length requests))
+    by_tests (machine_test words (register s.registers 0) program) (machine_at_most_7 words (register s.registers 0) program)
+    (ltb s.mpc (length program)) (ltb (first_place bad_request requests) (length requests))
   where
-    lent : End
-    lent = machine_test words (register s.registers 0) program
-
-    by_tests : (a b c : Bool) → number (cond a (cond b (cond c (Err (Request (first_place bad_request requests))) (Ok tt)) (Err Outside)) lent) ≤ 7
-    by_tests true true true = omega arith
-    by_tests true true false = omega arith
-    by_tests true false c = omega arith
-    by_tests false b c = machine_at_most_7 words (register s.registers 0) program
+    by_tests : (lent : End) → number lent ≤ 7 → (a b : Bool)
+        → number (result_and lent (cond a (cond b (Err (Request (first_place bad_request requests))) (Ok tt)) (Err Outside))) ≤ 7
+    by_tests (Ok _) h true true = omega arith
+    by_tests (Ok _) h true false = omega arith
+    by_tests (Ok _) h false b = omega arith
+    by_tests (Err refusal) h a b = h

@@ -1,7 +1,7 @@
 -- One microcycle, under the microword at MPC: the state without latches, each part's new value from the state before. It is what the micro
 -- level's own definitions (FETCH, ISSUE, .., pp. 126-130) are instances of, word by word. The request is looked at where the next address
 -- is chosen. A microcycle whose next address is outside is not done. Assumes nothing.
-use Rattle.std.specs.Prelude.{ℕ, Bool, List, leb, length}
+use Rattle.std.specs.Prelude.{ℕ, Bool, List, Option, leb, length}
 use Rattle.words.specs.Fields.{dest}
 use Rattle.status.specs.Psw.{mk_psw}
 use Rattle.control_store.specs.declared.microword.Microword.{Microword}

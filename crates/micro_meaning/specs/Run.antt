@@ -1,12 +1,11 @@
 -- A run: one microcycle for each request byte (the scope, on steps the engine stands on, and on numbers). It counts microcycles on one
 -- clock and returns to fetch on the other: a return is a microcycle after which MPC is the fetch address. Assumes nothing.
-use Rattle.std.specs.Prelude.{ℕ, ◌+◌, Bool, cond, not, ◌&&◌, List, [], ◌∷◌, eqb, ltb, length}
+use Rattle.std.specs.Prelude.{ℕ, ◌+◌, Bool, cond, not, ◌&&◌, List, [], ◌∷◌, eqb, ltb, length, Ok, Err}
+use Rattle.std.specs.Result.{result_and}
 use mir.Val.{bool_byte as num}
 use Rattle.words.specs.Registers.{register}
-use Rattle.answers.specs.Ends.{End}
-use Rattle.std.specs.Prelude.{Ok, Err}
 use Rattle.answers.specs.declared.Refusal.TheVariants.{Outside, Request, NextAddress}
-use Rattle.answers.specs.Ends.{is_done}
+use Rattle.answers.specs.Ends.{End, is_done}
 use Rattle.answers.specs.Places.{above, first_place}
 use Rattle.control_store.specs.Sequencer.{fetch_address}
 use Rattle.blocks.specs.Memory.{applied}
@@ -15,7 +14,6 @@ use Rattle.phase_meaning.specs.Tests.{most_microcycle_request}
 use Rattle.micro_meaning.specs.declared.MicroState.{MicroState}
 use Rattle.micro_meaning.specs.declared.MicroMachine.{MicroMachine}
 use Rattle.micro_meaning.specs.declared.Ran.{Ran}
-use Rattle.micro_meaning.specs.declared.MicroAnswer.{MicroAnswer}
 use Rattle.micro_meaning.specs.Machine.{micro_unpacked, micro_packed}
 use Rattle.micro_meaning.specs.Microcycle.{microcycle, micro_store, leaves}
 
@@ -26,26 +24,28 @@ bad_request = above most_microcycle_request
 -- 1, 3, 4, 5 of the machine, then MPC inside, then the first bad request
 unfoldable pub micro_test : ℕ → List ℕ → MicroState → List ℕ → End
 micro_test words program s requests =
-    let lent = machine_test words (register s.registers 0) program in
     let first_bad = first_place bad_request requests in
-    cond (is_done lent)
+    result_and (machine_test words (register s.registers 0) program)
     (cond (ltb s.mpc (length program))
     (cond (ltb first_bad (length requests)) (Err (Request first_bad)) (Ok tt))
     (Err Outside))
-    lent
 
 abbrev pub at_fetch : MicroMachine → Bool
 at_fetch s = eqb s.mpc fetch_address
 
+-- what a call answers
+abbrev pub MicroAnswer : Type 0
+MicroAnswer = Ran MicroState
+
 -- how a run ended, and memory after it
 pub record RanOn : Type 0 where
-  pub ran : Ran
+  pub ran : Ran MicroMachine
   pub memory : List ℕ
 
 abbrev pub ended : End → List ℕ → MicroMachine → ℕ → ℕ → RanOn
 ended end mem s done returns =
     record {
-      ran = record { end = end; microcycles = record { count = done }; steps = record { count = returns }; machine = s };
+      ran = record { end = end; microcycles = record { count = done }; steps = record { count = returns }; state = s };
       memory = mem;
     }
 
@@ -70,17 +70,17 @@ micro_refused end s mem =
     }
 
 -- refused before its first microcycle was done
-abbrev pub untouched : Ran → Bool
+abbrev pub untouched : Ran MicroMachine → Bool
 untouched ran = not (is_done ran.end) && eqb ran.microcycles.count 0
 
 -- the state after the last completed microcycle; with none completed, the state as lent
-abbrev pub answer_of : MicroState → Ran → MicroAnswer
+abbrev pub answer_of : MicroState → Ran MicroMachine → MicroAnswer
 answer_of s ran =
     record {
       end = ran.end;
       microcycles = ran.microcycles;
       steps = ran.steps;
-      state = cond (untouched ran) s (micro_packed ran.machine);
+      state = cond (untouched ran) s (micro_packed ran.state);
     }
 
 abbrev pub answered : MicroState → RanOn → MicroCalled

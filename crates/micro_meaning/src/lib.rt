@@ -1,13 +1,20 @@
 // The micro level: its state, as a microcycle sees it and as a caller lends it, what a microcycle does
-// and what a run answers. There is no function here: specs/ says what a microcycle and a run mean,
-// proofs/ what follows from it, and micro_level does it.
+// and what a run answers. The functions here turn one form of the state into another and decide
+// nothing: specs/ says what a microcycle and a run mean, proofs/ what follows from it, and micro_level
+// does it.
 #![tactic(auto)]
 
-use answers::{End, Microcycles, Steps};
+ghost use Rattle.std.specs.Prelude.{◌≡◌};
+ghost use Rattle.micro_meaning.specs.Machine.{micro_unpacked, micro_packed};
+ghost use Rattle.micro_meaning.specs.Performing.{core_of, machine};
+
+use answers::{Microcycles, Refusal, Steps};
 use blocks::memory::Store;
 use status::psw::Psw;
 
-// The state of the micro level: the phase level's without its latches, with the PSW as its six bits.
+// The state of the micro level: the phase level's without its latches, with the PSW as its six bits. It
+// is MicroState with another PSW. One struct, generic in the PSW, can't stand for both: MicroState is
+// avm_board of the C interface, and C has no generic type.
 #[derive(Clone, Copy)]
 pub struct MicroMachine {
     pub registers: [u32; 32],
@@ -20,7 +27,7 @@ pub struct MicroMachine {
     pub ivec: u32,
 }
 
-// The state beside the registers.
+// The state beside the registers, which a run keeps in one place while this moves by value.
 #[derive(Clone, Copy)]
 pub struct Core {
     pub psw: Psw,
@@ -41,14 +48,14 @@ pub struct Read {
     pub ssp: u32,
 }
 
-// What a microcycle does: the new state, the register that gets the value (0, which is never written,
-// for none), and what is stored.
+// What a microcycle does: the new state, the register that gets the value, and what is stored. Register
+// 0 is never written, so a value for it goes nowhere: the machine's own way to write none.
 #[derive(Clone, Copy)]
 pub struct Performed {
     pub core: Core,
     pub register: u32,
     pub value: u32,
-    pub store: Store,
+    pub store: Option<Store>,
 }
 
 // The state of the micro level, as a caller lends it. The PSW is a number.
@@ -65,26 +72,122 @@ pub struct MicroState {
     pub ivec: u32,
 }
 
-// How a run went on: the state after the last completed microcycle, and the two clocks.
+// How a run went: its end, the two clocks, and the state after the last completed microcycle, in either
+// form. The end stands beside the rest, for a run that 8 cuts short keeps the microcycles that it did.
 #[derive(Clone, Copy)]
-pub struct Ran {
-    pub end: End,
+pub struct Ran<S> {
+    pub end: Result<(), Refusal>,
     pub microcycles: Microcycles,
     pub steps: Steps,
-    pub machine: MicroMachine,
+    pub state: S,
 }
 
-#[derive(Clone, Copy)]
-pub struct MicroAnswer {
-    pub end: End,
-    pub microcycles: Microcycles,
-    pub steps: Steps,
-    pub state: MicroState,
+pub type MicroAnswer = Ran<MicroState>;
+
+// The PSW's other bits are dropped.
+impl From<MicroState> for MicroMachine {
+    ghost from_gives = { λ s m. m ≡ micro_unpacked s };
+
+    fn from(s: MicroState) -> MicroMachine {
+        let MicroState {
+            registers,
+            psw,
+            pc,
+            ir,
+            mar,
+            mbr,
+            mpc,
+            ivec,
+        } = s;
+        MicroMachine {
+            registers,
+            psw: Psw::from(psw),
+            pc,
+            ir,
+            mar,
+            mbr,
+            mpc,
+            ivec,
+        }
+    }
 }
 
-// How a microcycle went: not done where it would leave, and then the state is the one before it.
-#[derive(Clone, Copy)]
-pub struct Advanced {
-    pub leaves: bool,
-    pub core: Core,
+impl From<MicroMachine> for MicroState {
+    ghost from_gives = { λ m s. s ≡ micro_packed m };
+
+    fn from(m: MicroMachine) -> MicroState {
+        let MicroMachine {
+            registers,
+            psw,
+            pc,
+            ir,
+            mar,
+            mbr,
+            mpc,
+            ivec,
+        } = m;
+        MicroState {
+            registers,
+            psw: u32::from(psw),
+            pc,
+            ir,
+            mar,
+            mbr,
+            mpc,
+            ivec,
+        }
+    }
+}
+
+impl From<MicroMachine> for Core {
+    ghost from_gives = { λ s core. core ≡ core_of s };
+
+    fn from(s: MicroMachine) -> Core {
+        let MicroMachine {
+            psw,
+            pc,
+            ir,
+            mar,
+            mbr,
+            mpc,
+            ivec,
+            ..
+        } = s;
+        Core {
+            psw,
+            pc,
+            ir,
+            mar,
+            mbr,
+            mpc,
+            ivec,
+        }
+    }
+}
+
+impl Core {
+    // Both put together again.
+    pub fn with(self, registers: [u32; 32]) -> MicroMachine
+        ensures { result ≡ machine registers self }
+    {
+        let Core {
+            psw,
+            pc,
+            ir,
+            mar,
+            mbr,
+            mpc,
+            ivec,
+        } = self;
+        MicroMachine {
+            registers,
+            psw,
+            pc,
+            ir,
+            mar,
+            mbr,
+            mpc,
+            ivec,
+        }
+    }
 }
