@@ -6,24 +6,30 @@ ghost use Rattle.macro_meaning.specs.Effects.{add, dec, goes, put, mode};
 ghost use Rattle.macro_meaning.specs.Instructions.{jmp, call, interrupted, rti, rtn, gpsw, ppsw, ld, st, shift, arithmetic, logic, noop, computation, effect};
 
 use alu::{AluOutput, Flags};
-use blocks::choice::choose;
 use blocks::memory::{Store, load};
 use macro_meaning::{Effect, Operands};
+use status::jump::decide;
 use status::psw::Psw;
-use std::num::{wrapping_add_u32, wrapping_sub_u32};
+
+// The number of the supervisor's stack pointer.
+pub const SSP: u32 = 1;
+
+// The interrupt step's entry in the list.
+pub const INTERRUPT_STEP: u32 = 32;
 
 // The sum of two words.
 #[tactic(auto, unfolding(alu::specs::Alu::sum, words::specs::Words::wordn))]
 fn add(a: u32, b: u32) -> u32
     ensures { result ≡ add a b }
 {
-    wrapping_add_u32(a, b)
+    a.wrapping_add(b)
 }
 
+#[tactic(auto, using(alu::proofs::Sums::difference_is))]
 fn dec(a: u32) -> u32
     ensures { result ≡ dec a }
 {
-    wrapping_sub_u32(a, 1)
+    a.wrapping_sub(1)
 }
 
 // No register is written and nothing is stored.
@@ -58,13 +64,15 @@ fn mode(psw: Psw, sm: bool, ie: bool) -> Psw
     Psw { sm, ie, ..psw }
 }
 
-// A word is pushed where the stack pointer was.
 #[tactic(auto, unfolding(macro_meaning::specs::Instructions::jmp))]
 fn jmp(o: Operands) -> Effect
     ensures { result ≡ jmp o }
 {
-    let jumps = status::jump::decide(o.dest, o.psw);
-    let pc = choose(jumps, add(o.a, o.imm), add(o.pc, 1));
+    let pc = if decide(o.dest, o.psw) {
+        add(o.a, o.imm)
+    } else {
+        add(o.pc, 1)
+    };
     go(o, o.psw, pc)
 }
 
@@ -92,7 +100,7 @@ fn interrupted(o: Operands, pc: u32, back: u32) -> Effect
     let psw = mode(o.psw, true, false);
     Effect {
         sm: psw.sm,
-        register: 1,
+        register: SSP,
         value: add(o.ssp, 1),
         psw,
         pc,
@@ -111,7 +119,7 @@ fn rti(memory: &[u32], o: Operands) -> Effect
     let ssp = dec(o.ssp);
     Effect {
         sm: o.psw.sm,
-        register: 1,
+        register: SSP,
         value: ssp,
         psw: mode(o.psw, false, true),
         pc: load(memory, ssp),
@@ -241,7 +249,8 @@ fn computation(key: u32, o: Operands) -> Effect
     }
 }
 
-// By the entry of the list: 0 to 31 the opcodes, 32 the interrupt step.
+// By the entry of the list: 0 to 31 the opcodes, 32 the interrupt step. The entries are numbers because
+// the list is the source's own (`macro_inst_list`, pp. 130-137), whose opcodes are read off a word.
 #[tactic(auto, unfolding(words::specs::Shifter::shifter, macro_meaning::specs::Instructions::effect))]
 pub fn perform(key: u32, memory: &[u32], o: Operands) -> Effect
     ensures { result ≡ effect key memory.now o }
@@ -268,7 +277,7 @@ pub fn perform(key: u32, memory: &[u32], o: Operands) -> Effect
         11 => rtn(memory, o),
         14 => ld(memory, o, imm),
         15 => st(o, imm),
-        32 => interrupted(o, 255 & ivec, pc),
+        INTERRUPT_STEP => interrupted(o, 255 & ivec, pc),
         _ => computation(key, o),
     }
 }

@@ -2,8 +2,7 @@
 ghost use Rattle.std.specs.Prelude.{◌≡◌};
 ghost use Rattle.macro_meaning.specs.Step.{operands, selected, performed, step};
 
-use crate::instructions::perform;
-use blocks::choice::choose;
+use crate::instructions::{INTERRUPT_STEP, SSP, perform};
 use blocks::memory::{apply, load};
 use macro_meaning::{Effect, MacroMachine, Operands};
 use status::psw::Psw;
@@ -32,7 +31,7 @@ fn operands(w: u32, m: MacroMachine) -> Operands
         a: registers[srca as usize],
         b: registers[srcb as usize],
         d: registers[dest as usize],
-        ssp: registers[1],
+        ssp: registers[SSP as usize],
         imm,
         dest,
         psw,
@@ -46,7 +45,11 @@ fn operands(w: u32, m: MacroMachine) -> Operands
 fn selected(request: bool, psw: Psw, w: u32) -> u32
     ensures { result ≡ selected request psw w }
 {
-    choose(request & psw.ie, 32, Instruction::from(w).opcode)
+    if request & psw.ie {
+        INTERRUPT_STEP
+    } else {
+        Instruction::from(w).opcode
+    }
 }
 
 // The state after an effect, but for its store.
