@@ -102,12 +102,11 @@ fn interrupted(o: Operands, pc: u32, back: u32) -> Effect
         sm: psw.sm,
         register: SSP,
         value: add(o.ssp, 1),
-        psw,
-        pc,
         store: Some(Store {
             address: o.ssp,
             word: back,
         }),
+        ..go(o, psw, pc)
     }
 }
 
@@ -118,12 +117,9 @@ fn rti(memory: &[u32], o: Operands) -> Effect
 {
     let ssp = dec(o.ssp);
     Effect {
-        sm: o.psw.sm,
         register: SSP,
         value: ssp,
-        psw: mode(o.psw, false, true),
-        pc: load(memory, ssp),
-        store: None,
+        ..go(o, mode(o.psw, false, true), load(memory, ssp))
     }
 }
 
