@@ -32,9 +32,10 @@ pub sum_is : (a b p r : ℕ) (carry : Bool) → p ≡ (a + b) % 2 ^ 32 → r ≡
 unfolding sum wordn
 sum_is a b p r carry e f = omega arith
 
-pub difference_is : (a b p r : ℕ) (borrow : Bool) → a < 2 ^ 32 → b < 2 ^ 32 → r < 2 ^ 32 → (p + b) % 2 ^ 32 ≡ a → (r + num borrow) % 2 ^ 32 ≡ p → r ≡ difference a b borrow
+pub difference_is : (a b p r : ℕ) (borrow : Bool) → a < 2 ^ 32 → b < 2 ^ 32 → p ≡ (a + (2 ^ 32 - b)) % 2 ^ 32 → r ≡ (p + (2 ^ 32 - num borrow)) % 2 ^ 32
+    → r ≡ difference a b borrow
 unfolding difference sum wordn bnot
-difference_is a b p r borrow ha hb hr e f = omega (arith, num_not borrow)
+difference_is a b p r borrow ha hb e f = omega (arith, num_not borrow)
 
 -- a sum that wrapped is below its operand, in either step
 pub sum_carry_is : (a b p r : ℕ) (carry : Bool) → a < 2 ^ 32 → b < 2 ^ 32 → p ≡ (a + b) % 2 ^ 32 → r ≡ (p + num carry) % 2 ^ 32 → (ltb p a || ltb r p) ≡ sum_carry a b carry

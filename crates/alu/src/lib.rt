@@ -4,7 +4,6 @@
 ghost use Rattle.std.specs.Prelude.{◌≡◌};
 ghost use Rattle.alu.specs.Alu.{added, subtracted, plain, alu};
 
-use std::num::{wrapping_add_u32, wrapping_sub_u32};
 use words::predicates::{negative, zero};
 
 // The four status bits: overflow, negative, carry, zero.
@@ -27,8 +26,8 @@ pub struct AluOutput {
 fn add(a: u32, b: u32, carry: bool) -> AluOutput
     ensures { result ≡ added a b carry }
 {
-    let partial = wrapping_add_u32(a, b);
-    let value = wrapping_add_u32(partial, carry as u32);
+    let partial = a.wrapping_add(b);
+    let value = partial.wrapping_add(carry as u32);
     let sign = negative(a);
     let n = negative(value);
     AluOutput {
@@ -46,8 +45,8 @@ fn add(a: u32, b: u32, carry: bool) -> AluOutput
 fn subtract(a: u32, b: u32, borrow: bool) -> AluOutput
     ensures { result ≡ subtracted a b borrow }
 {
-    let partial = wrapping_sub_u32(a, b);
-    let value = wrapping_sub_u32(partial, borrow as u32);
+    let partial = a.wrapping_sub(b);
+    let value = partial.wrapping_sub(borrow as u32);
     let sign = negative(a);
     let n = negative(value);
     AluOutput {
@@ -62,6 +61,7 @@ fn subtract(a: u32, b: u32, borrow: bool) -> AluOutput
 }
 
 // A value that no sum made.
+#[tactic(auto, unfolding(crate::specs::Alu::plain))]
 fn pass(value: u32) -> AluOutput
     ensures { result ≡ plain value }
 {
@@ -76,6 +76,7 @@ fn pass(value: u32) -> AluOutput
     }
 }
 
+#[tactic(auto, unfolding(crate::specs::Alu::alu, words::specs::Words::bnot))]
 pub fn compute(code: u32, a: u32, b: u32, carry: bool) -> AluOutput
     ensures { result ≡ alu code a b carry }
 {
@@ -89,7 +90,7 @@ pub fn compute(code: u32, a: u32, b: u32, carry: bool) -> AluOutput
         6 => pass(a & b),
         7 => pass(a ^ b),
         8 => pass(a | b),
-        9 => pass(0xffff_ffff - a),
+        9 => pass(!a),
         _ => pass(a),
     }
 }

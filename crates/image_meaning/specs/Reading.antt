@@ -1,19 +1,18 @@
 -- The reading of a text: the order of the tests, the fold over the lines, what is stored, and what the reader answers (the scope, on
 -- images and on the numbers). Lines are counted from 1. Assumes nothing.
-use Rattle.std.specs.Prelude.{ℕ, suc, ◌+◌, ◌/◌, Bool, false, ◌&&◌, ◌||◌, cond, eqb, leb, length}
+use Rattle.std.specs.Prelude.{ℕ, suc, ◌+◌, ◌/◌, Bool, false, ◌&&◌, ◌||◌, cond, eqb, leb, length, Option, Some, None, Result}
 use mathlib.Core.List.{List, [], ◌∷◌, foldl}
 use Rattle.words.specs.Lengths.{legal_length}
 use Rattle.answers.specs.Ends.{End}
 use Rattle.std.specs.Prelude.{Ok, Err}
+use Rattle.answers.specs.declared.Refusal.{Refusal}
 use Rattle.answers.specs.declared.Refusal.TheVariants.{MemoryLength, TextLength, LineForm, LineSum, RecordType, Placement, EndRecord, RecordOrder}
 use Rattle.answers.specs.Ends.{is_done}
-use Rattle.image_placing.specs.declared.Placed.{Placed}
-use Rattle.image_placing.specs.declared.Placed.TheVariants.{Fits, Misplaced, Early}
-use Rattle.image_placing.specs.Placing.{placing, names, stored}
-use Rattle.image_meaning.specs.declared.Line.{Line}
-use Rattle.image_meaning.specs.declared.Line.TheVariants.{NoRecord, Record}
+use Rattle.image_placing.specs.declared.Misfit.TheVariants.{Misplaced, Early}
+use Rattle.image_placing.specs.Placing.{Placed, placing, names, stored}
+use Rattle.image_meaning.specs.declared.Record.{Record}
 use Rattle.image_meaning.specs.declared.Reading.{Reading}
-use Rattle.image_meaning.specs.declared.Reading.TheVariants.{Open, Ended, Refused}
+use Rattle.image_meaning.specs.declared.Reading.TheVariants.{Open, Ended}
 use Rattle.image_meaning.specs.Digits.{words_of}
 use Rattle.image_meaning.specs.Lines.{lines_of}
 use Rattle.image_meaning.specs.Records.{record_of, count_of, address_of, kind_of, data_of}
@@ -27,45 +26,51 @@ data_kind = 0
 abbrev pub end_kind : ℕ
 end_kind = 1
 
+-- how the reading stands after some lines, or why the text is refused
+abbrev pub ReadSoFar : Type 0
+ReadSoFar = Result Reading Refusal
+
 -- ---- one line
 
 -- a data record: 13 and 15 are the placing's; where it fits, its data's end is the new one
-abbrev pub data_read : Placed → ℕ → ℕ → Reading
-data_read Fits number end = Open end
-data_read Misplaced number end = Refused (Err (Placement number))
-data_read Early number end = Refused (Err (RecordOrder number))
+abbrev pub data_read : Placed → ℕ → ℕ → ReadSoFar
+data_read (Ok _) number end = Ok (Open end)
+data_read (Err Misplaced) number end = Err (Placement number)
+data_read (Err Early) number end = Err (RecordOrder number)
 
 -- the line of a number, read when the last data ended at `end`: tested 10, 11, 12, 13, 15 in this order
-unfoldable pub tested : ℕ → ℕ → ℕ → Line → Reading
-tested m number end NoRecord = Refused (Err (LineForm number))
-tested m number end (Record count address kind sum) =
-    cond (eqb sum 0)
-    (cond (eqb kind data_kind) (data_read (placing m end address count) number (address + count))
-    (cond (eqb kind end_kind) (cond (eqb count 0 && eqb address 0) Ended (Refused (Err (Placement number))))
-    (Refused (Err (RecordType number)))))
-    (Refused (Err (LineSum number)))
+unfoldable pub tested : ℕ → ℕ → ℕ → Option Record → ReadSoFar
+tested m number end None = Err (LineForm number)
+tested m number end (Some r) =
+    cond (eqb r.sum 0)
+    (cond (eqb r.heading.kind data_kind)
+    (data_read (placing m end r.heading.address r.heading.count) number (r.heading.address + r.heading.count))
+    (cond (eqb r.heading.kind end_kind)
+    (cond (eqb r.heading.count 0 && eqb r.heading.address 0) (Ok Ended) (Err (Placement number)))
+    (Err (RecordType number))))
+    (Err (LineSum number))
 
 -- a line behind the end record is refused 14 without further test; what is refused stays so
-abbrev pub next : ℕ → ℕ → Reading → List ℕ → Reading
-next m number (Open end) line = tested m number end (record_of line)
-next m number Ended line = Refused (Err (EndRecord number))
-next m number (Refused why) line = Refused why
+abbrev pub next : ℕ → ℕ → ReadSoFar → List ℕ → ReadSoFar
+next m number (Ok (Open end)) line = tested m number end (record_of line)
+next m number (Ok Ended) line = Err (EndRecord number)
+next m number (Err why) line = Err why
 
 -- ---- all lines
 
 -- no line is left: 14 where no end record was read, with the number of lines read
-abbrev pub finish : ℕ → Reading → End
-finish lines (Open end) = Err (EndRecord lines)
-finish lines Ended = Ok tt
-finish lines (Refused why) = why
+abbrev pub finish : ℕ → ReadSoFar → End
+finish lines (Ok (Open end)) = Err (EndRecord lines)
+finish lines (Ok Ended) = Ok tt
+finish lines (Err why) = Err why
 
 -- the lines that are left, when some were read
-unfoldable pub read_lines : ℕ → ℕ → Reading → List (List ℕ) → End
+unfoldable pub read_lines : ℕ → ℕ → ReadSoFar → List (List ℕ) → End
 read_lines m lines reading [] = finish lines reading
 read_lines m lines reading (line ∷ rest) = read_lines m (suc lines) (next m (suc lines) reading line) rest
 
 abbrev pub judged : ℕ → List ℕ → End
-judged m text = read_lines m 0 (Open 0) (lines_of text)
+judged m text = read_lines m 0 (Ok (Open 0)) (lines_of text)
 
 -- ---- what is stored: the words of each data record. Asked of accepted texts alone, so each line is a record
 

@@ -1,9 +1,8 @@
 -- What a line says (the scope, on images): a colon, then count + 5 bytes as pairs of digits, of which the first is the count, two are the
 -- address, the high byte first, one is the type, then the data and the checksum. Assumes nothing.
-use Rattle.std.specs.Prelude.{ℕ, ◌+◌, ◌*◌, ◌%◌, Bool, ◌&&◌, cond, List, eqb, get_or, drop}
+use Rattle.std.specs.Prelude.{ℕ, ◌+◌, ◌*◌, ◌%◌, Bool, ◌&&◌, cond, List, eqb, get_or, drop, Option, Some, None}
 use Rattle.image_meaning.specs.declared.Heading.{Heading}
-use Rattle.image_meaning.specs.declared.Line.{Line}
-use Rattle.image_meaning.specs.declared.Line.TheVariants.{NoRecord, Record}
+use Rattle.image_meaning.specs.declared.Record.{Record}
 use Rattle.image_meaning.specs.Digits.{byte_of, bytes_of, all_bytes, sum_of}
 use Rattle.image_meaning.specs.Lines.{is_end}
 
@@ -31,9 +30,13 @@ kind_of line = byte_of (drop 7 line)
 abbrev pub heading_of : List ℕ → Heading
 heading_of line = record { count = count_of line; address = address_of line; kind = kind_of line }
 
-unfoldable pub record_of : List ℕ → Line
+-- what a line of record form says
+abbrev pub saying : ℕ → ℕ → ℕ → ℕ → Option Record
+saying count address kind sum = Some (record { heading = record { count = count; address = address; kind = kind }; sum = sum })
+
+unfoldable pub record_of : List ℕ → Option Record
 record_of line =
-    cond (is_record line) (Record (count_of line) (address_of line) (kind_of line) (sum_of (record_bytes line) % 256)) NoRecord
+    cond (is_record line) (saying (count_of line) (address_of line) (kind_of line) (sum_of (record_bytes line) % 256)) None
 
 -- the digits of the data
 abbrev pub data_of : List ℕ → List ℕ

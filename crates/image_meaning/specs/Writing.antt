@@ -1,12 +1,11 @@
 -- The written text (the scope, on images): all M words, 16 bytes a record, upper case, LF, ascending, then the end record; and what the
 -- writer answers. Assumes nothing.
-use Rattle.std.specs.Prelude.{ℕ, suc, ◌+◌, ◌-◌, ◌*◌, ◌/◌, ◌%◌, cond, List, [], ◌∷◌, ◌++◌, leb, length}
+use Rattle.std.specs.Prelude.{ℕ, suc, ◌+◌, ◌-◌, ◌*◌, ◌/◌, ◌%◌, cond, List, [], ◌∷◌, ◌++◌, leb, length, Result, Ok, Err}
 use Rattle.std.proofs.lemmas.List.Edits.{sets}
 use Rattle.words.specs.Lengths.{legal_length}
-use Rattle.std.specs.Prelude.{Ok, Err}
+use Rattle.std.specs.Result.{is_ok}
+use Rattle.answers.specs.declared.Refusal.{Refusal}
 use Rattle.answers.specs.declared.Refusal.TheVariants.{MemoryLength, Room}
-use Rattle.answers.specs.Ends.{is_done}
-use Rattle.image_meaning.specs.declared.Written.{Written}
 use Rattle.image_meaning.specs.Digits.{sum_of, hex, word_bytes}
 use Rattle.image_meaning.specs.Lines.{lf}
 use Rattle.image_meaning.specs.Records.{colon}
@@ -52,15 +51,16 @@ written_length m = 11 * m + 12
 
 -- ---- the writer: 1, then 16 with the bytes needed; the room changes where nothing is refused, and its rest nowhere
 
-abbrev pub written : ℕ → Written
-written bytes = record { end = Ok tt; bytes = bytes }
+-- the bytes written, or why nothing is
+abbrev pub Written : Type 0
+Written = Result ℕ Refusal
 
 unfoldable pub write_answer : List ℕ → List ℕ → Written
 write_answer memory room =
     cond (legal_length (length memory))
-    (cond (leb (written_length (length memory)) (length room)) (written (written_length (length memory)))
-    (record { end = (Err (Room (written_length (length memory)))); bytes = 0 }))
-    (record { end = Err MemoryLength; bytes = 0 })
+    (cond (leb (written_length (length memory)) (length room)) (Ok (written_length (length memory)))
+    (Err (Room (written_length (length memory)))))
+    (Err MemoryLength)
 
 unfoldable pub room_after : List ℕ → List ℕ → List ℕ
-room_after memory room = cond (is_done (write_answer memory room).end) (sets room 0 (written_text memory)) room
+room_after memory room = cond (is_ok (write_answer memory room)) (sets room 0 (written_text memory)) room

@@ -6,9 +6,9 @@ use mathlib.Core.Bool.{Bool, true, false, ◌&&◌, cond}
 use mathlib.Core.Logic.{◌↔◌}
 use lib.Dec.{eqb, leb}
 use borrow.Author.Tests.{eqb-true, eqb-false, leb-true, leb-false}
-use Rattle.image_placing.specs.declared.Placed.{Placed}
-use Rattle.image_placing.specs.declared.Placed.TheVariants.{Fits, Misplaced, Early}
-use Rattle.image_placing.specs.Placing.{placing, Stands, fits, early, misplaced}
+use Rattle.std.specs.Prelude.{Ok, Err}
+use Rattle.image_placing.specs.declared.Misfit.TheVariants.{Misplaced, Early}
+use Rattle.image_placing.specs.Placing.{Placed, placing, Stands, fits, early, misplaced}
 
 module _ (m end address count : ℕ) where
   -- by the four tests
@@ -18,7 +18,7 @@ module _ (m end address count : ℕ) where
     where
       by_tests : (a c i o : Bool) → eqb (address % 4) 0 ≡ a → eqb (count % 4) 0 ≡ c → leb (address + count) (4 * m) ≡ i →
           leb end address ≡ o →
-          Stands m end address count (cond ((a && c) && i) (cond o Fits Early) Misplaced)
+          Stands m end address count (cond ((a && c) && i) (cond o (Ok tt) (Err Early)) (Err Misplaced))
       by_tests true true true true e f g h =
           fits
           (record {

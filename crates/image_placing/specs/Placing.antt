@@ -1,9 +1,9 @@
 -- Where a record of data may stand, and which words it names (the scope, on images: word w is bytes 4w to 4w + 3). Addresses, counts and
 -- ends are in bytes, m is the number of memory's words. Nothing here knows how a record is written. Assumes nothing.
-use Rattle.std.specs.Prelude.{ℕ, ◌+◌, ◌*◌, ◌/◌, ◌%◌, ◌<◌, ◌≤◌, ◌≡◌, Bool, ◌&&◌, cond, List, eqb, leb, ltb}
+use Rattle.std.specs.Prelude.{ℕ, ◌+◌, ◌*◌, ◌/◌, ◌%◌, ◌<◌, ◌≤◌, ◌≡◌, Bool, ◌&&◌, cond, List, eqb, leb, ltb, Result, Ok, Err}
 use Rattle.std.proofs.lemmas.List.Edits.{sets}
-use Rattle.image_placing.specs.declared.Placed.{Placed}
-use Rattle.image_placing.specs.declared.Placed.TheVariants.{Fits, Misplaced, Early}
+use Rattle.image_placing.specs.declared.Misfit.{Misfit}
+use Rattle.image_placing.specs.declared.Misfit.TheVariants.{Misplaced, Early}
 
 -- whole words, and all of them in memory: a record that is not so is refused 13
 abbrev pub well_placed : ℕ → ℕ → ℕ → Bool
@@ -13,9 +13,14 @@ well_placed m address count = (eqb (address % 4) 0 && eqb (count % 4) 0) && leb 
 abbrev pub in_order : ℕ → ℕ → Bool
 in_order end address = leb end address
 
+-- how a record stands: it fits, or why it doesn't
+abbrev pub Placed : Type 0
+Placed = Result Unit Misfit
+
 -- 13 is tested before 15
 unfoldable pub placing : ℕ → ℕ → ℕ → ℕ → Placed
-placing m end address count = cond (well_placed m address count) (cond (in_order end address) Fits Early) Misplaced
+placing m end address count =
+    cond (well_placed m address count) (cond (in_order end address) (Ok tt) (Err Early)) (Err Misplaced)
 
 -- the words that a record names
 abbrev pub names : ℕ → ℕ → ℕ → Bool
@@ -33,6 +38,6 @@ pub record WellPlaced (m address count : ℕ) : Type 0 where
   pub in_memory : address + count ≤ 4 * m
 
 pub data Stands (m end address count : ℕ) : Placed → Type 0 where
-  fits : WellPlaced m address count → end ≤ address → Stands m end address count Fits
-  early : WellPlaced m address count → address < end → Stands m end address count Early
-  misplaced : (WellPlaced m address count → ⊥) → Stands m end address count Misplaced
+  fits : WellPlaced m address count → end ≤ address → Stands m end address count (Ok tt)
+  early : WellPlaced m address count → address < end → Stands m end address count (Err Early)
+  misplaced : (WellPlaced m address count → ⊥) → Stands m end address count (Err Misplaced)

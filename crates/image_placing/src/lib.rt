@@ -5,33 +5,27 @@
 ghost use Rattle.std.specs.Prelude.{◌≡◌, set};
 ghost use Rattle.image_placing.specs.Placing.{placing};
 
-// How a record stands: it fits, or it is misplaced (13), or it starts before the end of the last (15).
-#[derive(Clone, Copy)]
-pub enum Placed {
-    Fits,
+// Why a record can't stand where it says: it is misplaced (13), or it starts before the end of the last (15).
+#[derive(Clone, Copy, Debug, PartialEq, Eq)]
+pub enum Misfit {
     Misplaced,
     Early,
 }
 
 // A record of `count` bytes from `address` on, in a memory of `words` words, after one that ended at `end`.
-pub fn place(words: usize, end: usize, address: u32, count: u16) -> Placed
+#[tactic(auto, unfolding(crate::specs::Placing::placing))]
+pub fn place(words: usize, end: usize, address: u32, count: u16) -> Result<(), Misfit>
     ensures { result ≡ placing words end address count }
 {
-    if address % 4 != 0 {
-        return Placed::Misplaced;
-    }
-    if count % 4 != 0 {
-        return Placed::Misplaced;
-    }
     let from = address as usize;
-    let last = (from + count as usize) / 4;
-    if words < last {
-        return Placed::Misplaced;
+    let last = from + count as usize;
+    if address % 4 != 0 || count % 4 != 0 || words < last / 4 {
+        return Err(Misfit::Misplaced);
     }
     if from < end {
-        return Placed::Early;
+        return Err(Misfit::Early);
     }
-    Placed::Fits
+    Ok(())
 }
 
 // One word; nothing where memory has no such word.

@@ -6,7 +6,7 @@ use mathlib.Core.Bool.{false}
 use mathlib.Core.List.{List}
 use lib.ListN.{length}
 use Rattle.std.specs.Prelude.{None}
-use Rattle.phase_meaning.specs.declared.PhaseMachine.{PhaseMachine}
+use Rattle.phase_meaning.specs.Machine.{PhaseMachine}
 use Rattle.phase_meaning.specs.Phases.{phase_one, phase_two, phase_three, phase_four, next_mpc, phase_store}
 use Rattle.phase_meaning.specs.Call.{phase_done, stores, leaves as phase_leaves}
 use Rattle.micro_meaning.specs.Machine.{micro_seen}

@@ -1,7 +1,7 @@
 -- The micro level's state: the phase level's without latches (the tuples of pp. 126-130). A caller lends it with the PSW as a number; a
 -- microcycle sees the PSW as its six bits. Assumes nothing.
 use Rattle.status.specs.Psw.{mk_psw, get_psw}
-use Rattle.phase_meaning.specs.declared.PhaseMachine.{PhaseMachine}
+use Rattle.phase_meaning.specs.Machine.{PhaseMachine}
 use Rattle.micro_meaning.specs.declared.MicroMachine.{MicroMachine}
 use Rattle.micro_meaning.specs.declared.MicroState.{MicroState}
 

@@ -5,7 +5,7 @@ use mathlib.Core.Path.{◌≡◌, refl, ap, ◌∙◌}
 use mathlib.Core.Bool.{Bool, true, cond, ◌&&◌}
 use mathlib.Core.List.{List}
 use Rattle.control_store.specs.Microword.{fields}
-use Rattle.phase_meaning.specs.declared.PhaseMachine.{PhaseMachine}
+use Rattle.phase_meaning.specs.Machine.{PhaseMachine}
 use Rattle.phase_meaning.specs.Phases.{phase_one, phase_three}
 
 pub request_latched_anew : (urom other : List ℕ) (s t : PhaseMachine) (request : ℕ)

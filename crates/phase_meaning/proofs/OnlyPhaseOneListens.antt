@@ -4,7 +4,7 @@ use mathlib.Core.Path.{◌≡◌}
 use mathlib.Core.Bool.{false}
 use mathlib.Core.List.{List}
 use lib.Dec.{eqb}
-use Rattle.phase_meaning.specs.declared.PhaseMachine.{PhaseMachine}
+use Rattle.phase_meaning.specs.Machine.{PhaseMachine}
 use Rattle.phase_meaning.specs.Call.{phase_done}
 
 pub only_phase_one_listens : (program mem : List ℕ) (s : PhaseMachine) (request other : ℕ) → eqb s.phase 0 ≡ false

@@ -1,6 +1,6 @@
 -- The four phases (from p. 110): each takes the whole state and gives the whole state, new values by name, then the record. Memory stands
 -- apart: phase four reads it, and what it stores is a value of its own. `urom` is the control store. Assumes nothing.
-use Rattle.std.specs.Prelude.{ℕ, Bool, List}
+use Rattle.std.specs.Prelude.{ℕ, Bool, List, Option}
 use Rattle.words.specs.Words.{bit}
 use Rattle.words.specs.Fields.{dest}
 use Rattle.status.specs.Psw.{mk_psw}
@@ -10,7 +10,7 @@ use Rattle.blocks.specs.declared.memory.Store.{Store}
 use Rattle.blocks.specs.Sources.{a_bus, b_bus}
 use Rattle.datapath.specs.Operation.{a_input, operated}
 use Rattle.datapath.specs.Results.{new_psw, new_reg, new_mpc, new_ir, new_pc, new_mbr, mar_from_pc, new_mar, new_store}
-use Rattle.phase_meaning.specs.declared.PhaseMachine.{PhaseMachine}
+use Rattle.phase_meaning.specs.Machine.{PhaseMachine}
 
 -- the interrupt line, bit 0 of what comes from outside; nothing reads bit 1, reset
 unfoldable pub interrupt : ℕ → Bool

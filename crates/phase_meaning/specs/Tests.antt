@@ -1,13 +1,12 @@
 -- What a call tests of what it is lent, in the order of the scope's numbers. Assumes nothing.
-use Rattle.std.specs.Prelude.{ℕ, cond, ◌&&◌, List, ltb, leb, length}
+use Rattle.std.specs.Prelude.{ℕ, cond, ◌&&◌, List, ltb, leb, length, Ok, Err}
+use Rattle.std.specs.Result.{result_and}
 use Rattle.words.specs.Registers.{register}
-use Rattle.answers.specs.Ends.{End}
-use Rattle.std.specs.Prelude.{Ok, Err}
 use Rattle.answers.specs.declared.Refusal.TheVariants.{Microword, Outside, Request}
-use Rattle.answers.specs.Ends.{is_done}
+use Rattle.answers.specs.Ends.{End}
 use Rattle.control_store.specs.Codes.{legal_microword}
 use Rattle.control_store.specs.ControlStore.{machine_test}
-use Rattle.phase_meaning.specs.declared.PhaseState.{PhaseState}
+use Rattle.phase_meaning.specs.Machine.{PhaseState}
 
 -- the largest request byte: interrupt and reset
 abbrev pub most_microcycle_request : ℕ
@@ -20,11 +19,9 @@ last_phase = 3
 -- a phase call's: after the microprogram its MIR, as the word numbered by the length, then MPC and phase number, then the request
 unfoldable pub phase_test : ℕ → List ℕ → PhaseState → ℕ → End
 phase_test words program s request =
-    let lent = machine_test words (register s.registers 0) program in
-    cond (is_done lent)
+    result_and (machine_test words (register s.registers 0) program)
     (cond (legal_microword s.mir)
     (cond (ltb s.mpc (length program) && leb s.phase last_phase)
     (cond (leb request most_microcycle_request) (Ok tt) (Err (Request 0)))
     (Err Outside))
     (Err (Microword (length program))))
-    lent

@@ -15,7 +15,7 @@ use Rattle.control_store.proofs.SixBits.{next_lt}
 use Rattle.blocks.specs.declared.memory.Store.{Store}
 use Rattle.blocks.specs.Memory.{applied}
 use Rattle.datapath.specs.Results.{new_mpc}
-use Rattle.phase_meaning.specs.declared.PhaseMachine.{PhaseMachine}
+use Rattle.phase_meaning.specs.Machine.{PhaseMachine}
 use Rattle.phase_meaning.specs.Phases.{next_mpc}
 use Rattle.phase_meaning.specs.Tests.{last_phase}
 use Rattle.phase_meaning.specs.Call.{leaves}

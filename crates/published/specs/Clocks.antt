@@ -3,7 +3,7 @@
 use Rattle.std.specs.Prelude.{ℕ, suc, cond, ◌||◌, List, [], ◌∷◌, eqb}
 use mir.Val.{bool_byte as num}
 use Rattle.blocks.specs.Memory.{fetch, applied}
-use Rattle.phase_meaning.specs.declared.PhaseMachine.{PhaseMachine}
+use Rattle.phase_meaning.specs.Machine.{PhaseMachine}
 use Rattle.phase_meaning.specs.Phases.{interrupt}
 use Rattle.phase_meaning.specs.Call.{phase_done, stores}
 use Rattle.micro_meaning.specs.declared.MicroMachine.{MicroMachine}

@@ -36,6 +36,7 @@ pub struct PswLines {
 impl From<Psw> for u32 {
     ghost from_gives = { λ psw w. w ≡ mk_psw psw };
 
+    #[tactic(auto, unfolding(crate::specs::Psw::mk_psw))]
     fn from(psw: Psw) -> u32 {
         let Psw { sm, ie, v, n, c, z } = psw;
         (sm as u32) * 32
@@ -51,6 +52,7 @@ impl From<Psw> for u32 {
 impl From<u32> for Psw {
     ghost from_gives = { λ w psw. psw ≡ get_psw w };
 
+    #[tactic(auto, unfolding(words::specs::Words::bit, crate::specs::Psw::get_psw))]
     fn from(w: u32) -> Psw {
         Psw {
             sm: w / 32 % 2 == 1,
@@ -76,6 +78,7 @@ fn load(take: bool, new: bool, old: bool) -> bool
 }
 
 // The single bits, each by its lines.
+#[tactic(auto, unfolding(crate::specs::Psw::clocked))]
 fn clocked(lines: PswLines, psw: Psw) -> Psw
     ensures { result ≡ clocked lines psw }
 {
@@ -91,6 +94,7 @@ fn clocked(lines: PswLines, psw: Psw) -> Psw
     }
 }
 
+#[tactic(auto, using(crate::proofs::PswRule::kept, crate::proofs::PswRule::single_bits, crate::proofs::PswRule::whole_word))]
 pub fn next(lines: PswLines, word: u32, psw: Psw) -> Psw
     ensures { result ≡ next_psw lines word psw }
 {

@@ -14,6 +14,7 @@ pub struct Instruction {
 impl From<u32> for Instruction {
     ghost from_gives = { λ w instruction. instruction ≡ decoded w };
 
+    #[tactic(auto, unfolding(crate::specs::Fields::dest, crate::specs::Words::field, crate::specs::Fields::imm, crate::specs::Fields::opcode, crate::specs::Fields::srca, crate::specs::Fields::srcb))]
     fn from(w: u32) -> Instruction {
         Instruction {
             opcode: w / 0x400_0000 % 32,

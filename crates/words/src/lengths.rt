@@ -6,6 +6,7 @@ pub const FEWEST_WORDS: usize = 16;
 
 pub const MOST_WORDS: usize = 16_384;
 
+#[tactic(auto, unfolding(crate::specs::Lengths::legal_length))]
 pub fn legal(words: usize) -> bool
     ensures { result ≡ legal_length words }
 {

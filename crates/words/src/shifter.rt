@@ -10,6 +10,7 @@ pub struct ShifterOutput {
     pub carry: bool,
 }
 
+#[tactic(auto, unfolding(crate::specs::Shifter::asr, crate::specs::Words::bit, crate::specs::Words::lsb, crate::specs::Words::negp, crate::specs::Shifter::shifter, crate::specs::Shifter::shl, crate::specs::Shifter::shr, crate::specs::Words::wordn))]
 pub fn shift(code: u32, w: u32) -> ShifterOutput
     ensures { result ≡ shifter code w }
 {

@@ -1,4 +1,5 @@
 -- The value by two wrapping differences, the flags from it: `Sums` has the value and the carry, `OverflowBySigns` the overflow.
+use mathlib.Core.Path.{refl}
 use mathlib.Core.Bool.{xor}
 use Rattle.alu.specs.Alu.{subtracted}
 use Rattle.alu.proofs.Sums.{difference_is, difference_carry_is}
@@ -11,7 +12,7 @@ unfolding subtracted xor
 returns c =
     let a_fits = c.ranges.a.fits in
     let b_fits = c.ranges.b.fits in
-    let right = difference_is _ _ _ _ _ a_fits b_fits c.wrapping_sub_u32-value.type_inv c.wrapping_sub_u32-partial.ensures.value c.wrapping_sub_u32-value.ensures.value in
+    let right = difference_is _ _ _ _ c.args.borrow a_fits b_fits refl refl in
     output_is _ _ _ _ _ _ _ _ right
     c.negative-n.ensures
     c.zero.ensures
