@@ -8,8 +8,9 @@ use lib.Dec.{eqb}
 use lib.ListN.{length, get_or, drop}
 use lib.Seq.{sets, length-sets}
 use Rattle.answers.specs.Ends.{End}
-use Rattle.std.specs.Prelude.{Ok, Err}
+use Rattle.std.specs.Prelude.{Ok}
 use Rattle.answers.specs.Ends.{is_done}
+use Rattle.std.specs.Result.{is_ok}
 use Rattle.answers.proofs.OneNumberAnEnd.{only_done_is_done}
 use Rattle.image_placing.specs.Placing.{names, stored}
 use Rattle.image_placing.proofs.WordsNotNamed.{not_named_kept}
@@ -32,9 +33,9 @@ pub refused_read_leaves_memory : (memory text : List ℕ) → (read_answer memor
 unfolding memory_after
 refused_read_leaves_memory memory text h = rw (not_done (read_answer memory text) h)
 
-pub refused_write_leaves_the_room : (memory room : List ℕ) → ((write_answer memory room).end ≡ Ok tt → ⊥) → room_after memory room ≡ room
+pub refused_write_leaves_the_room : (memory room : List ℕ) → is_ok (write_answer memory room) ≡ false → room_after memory room ≡ room
 unfolding room_after
-refused_write_leaves_the_room memory room h = rw (not_done (write_answer memory room).end h)
+refused_write_leaves_the_room memory room h = rw h
 
 -- ---- every word that no record names
 
@@ -97,7 +98,7 @@ memory_keeps_its_length memory text = by_answer (is_done (read_answer memory tex
 
 pub room_keeps_its_length : (memory room : List ℕ) → length (room_after memory room) ≡ length room
 unfolding room_after
-room_keeps_its_length memory room = by_answer (is_done (write_answer memory room).end)
+room_keeps_its_length memory room = by_answer (is_ok (write_answer memory room))
   where
     by_answer : (t : Bool) → length (cond t (sets room 0 (written_text memory)) room) ≡ length room
     by_answer true = length-sets room 0 (written_text memory)

@@ -12,15 +12,15 @@ use lib.Seq.{sets-eq, take_at, drop_at}
 use borrow.Author.Tests.{le-leb}
 use Rattle.words.specs.Lengths.{legal_length}
 use Rattle.answers.specs.Ends.{End}
-use Rattle.std.specs.Prelude.{Ok, Err}
-use Rattle.image_meaning.specs.declared.Written.{Written}
+use Rattle.std.specs.Prelude.{Ok}
+use Rattle.std.specs.Result.{result_unwrap_or}
 use Rattle.image_meaning.specs.Digits.{Words}
 use Rattle.image_meaning.specs.Reading.{read_answer, memory_after}
-use Rattle.image_meaning.specs.Writing.{written, written_text, written_length, write_answer, room_after}
+use Rattle.image_meaning.specs.Writing.{Written, written_text, written_length, write_answer, room_after}
 use Rattle.image_meaning.proofs.RoundTrip.{text_has_its_length, written_text_accepted, written_text_read}
 
 module _ (memory room : List ℕ) (legal : legal_length (length memory) ≡ true) (fits : written_length (length memory) ≤ length room) where
-  pub write_accepted : write_answer memory room ≡ written (written_length (length memory))
+  pub write_accepted : write_answer memory room ≡ Ok (written_length (length memory))
   unfolding write_answer
   write_accepted = rw (legal, le-leb (written_length (length memory)) (length room) fits)
 
@@ -49,13 +49,13 @@ module _ (memory room : List ℕ) (legal : legal_length (length memory) ≡ true
   -- the memory it leaves
   pub read_back : Words memory → (old : List ℕ) → length old ≡ length memory →
       {r : Written} {left : List ℕ} → r ≡ write_answer memory room → left ≡ room_after memory room →
-      {s : End} {after : List ℕ} → s ≡ read_answer old (take r.bytes left) → after ≡ memory_after old (take r.bytes left) →
-      (r.end ≡ Ok tt) × (s ≡ Ok tt) × (after ≡ memory)
+      {s : End} {after : List ℕ} → s ≡ read_answer old (take (result_unwrap_or r 0) left) → after ≡ memory_after old (take (result_unwrap_or r 0) left) →
+      (r ≡ Ok (written_length (length memory))) × (s ≡ Ok tt) × (after ≡ memory)
   read_back words old same_size {r} {left} w e read stored = (
-    ap (λ (a : Written). a.end) (w ∙ write_accepted),
+    w ∙ write_accepted,
     read ∙ ap (read_answer old) text ∙ written_text_accepted memory legal words old same_size,
     stored ∙ ap (memory_after old) text ∙ written_text_read memory legal words old same_size,
   )
     where
-      text : take r.bytes left ≡ written_text memory
+      text : take (result_unwrap_or r 0) left ≡ written_text memory
       text = rw (w, write_accepted, e) text_in_the_room

@@ -9,12 +9,11 @@ use lib.ListN.{length, take, drop, length-append}
 use lib.Seq.{sets, sets-eq, take_at, drop_at}
 use borrow.Author.Tests.{le-leb}
 use Rattle.words.specs.Lengths.{legal_length}
-use Rattle.std.specs.Prelude.{Ok, Err}
-use Rattle.image_meaning.specs.declared.Reading.{Reading}
+use Rattle.std.specs.Prelude.{Ok}
 use Rattle.image_meaning.specs.declared.Reading.TheVariants.{Open}
 use Rattle.image_meaning.specs.Digits.{Words}
 use Rattle.image_meaning.specs.Lines.{lines_of}
-use Rattle.image_meaning.specs.Reading.{most_text, read_lines, with_line, read_answer, memory_after}
+use Rattle.image_meaning.specs.Reading.{ReadSoFar, most_text, read_lines, with_line, read_answer, memory_after}
 use Rattle.image_meaning.specs.Writing.{data_line, data_bytes, end_bytes, text_from, written_text, written_length}
 use Rattle.image_meaning.proofs.InFours.{in_fours}
 use Rattle.image_meaning.proofs.WrittenLines.{line_cut_off}
@@ -37,14 +36,14 @@ by_fours (suc q) (w ∷ x ∷ y ∷ z ∷ l) e = take_four (by_fours q l (omega 
 -- ---- the text is accepted
 
 accepted : {q : ℕ} {words : List ℕ} → ByFours q words → Words words → (i m lines : ℕ) → i + q ≤ 4096 → 4 * (i + q) ≤ m →
-    read_lines m lines (Open (16 * i)) (lines_of (text_from i words)) ≡ Ok tt
+    read_lines m lines (Ok (Open (16 * i))) (lines_of (text_from i words)) ≡ Ok tt
 unfolding read_lines text_from
 accepted done ws i m lines h k =
-    ap (read_lines m lines (Open (16 * i))) (line_cut_off end_bytes [])
-    ∙ ap (λ (r : Reading). read_lines m (suc lines) r []) (text_ended m (suc lines) (16 * i))
+    ap (read_lines m lines (Ok (Open (16 * i)))) (line_cut_off end_bytes [])
+    ∙ ap (λ (r : ReadSoFar). read_lines m (suc lines) r []) (text_ended m (suc lines) (16 * i))
 accepted (take_four {w = w} {x = x} {y = y} {z = z} {rest = rest} more) ws i m lines h k =
-    ap (read_lines m lines (Open (16 * i))) (line_cut_off (data_bytes (16 * i) w x y z) (text_from (suc i) rest))
-    ∙ ap (λ (r : Reading). read_lines m (suc lines) r (lines_of (text_from (suc i) rest)))
+    ap (read_lines m lines (Ok (Open (16 * i)))) (line_cut_off (data_bytes (16 * i) w x y z) (text_from (suc i) rest))
+    ∙ ap (λ (r : ReadSoFar). read_lines m (suc lines) r (lines_of (text_from (suc i) rest)))
     (words_placed i w x y z (omega arith) (ws 0) (ws 1) (ws 2) (ws 3) m (suc lines) (omega arith))
     ∙ accepted more (λ j. ws (suc (suc (suc (suc j))))) (suc i) m (suc lines) (omega arith) (omega arith)
 

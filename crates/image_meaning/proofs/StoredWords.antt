@@ -9,13 +9,14 @@ use lib.ListN.{length, get_or, take, drop, get_or-append}
 use lib.Seq.{sets, sets-eq, length-take-le, get_or-append-add}
 use borrow.Author.Tests.{eq-eqb, lt-leb}
 use Rattle.answers.specs.Ends.{End}
-use Rattle.std.specs.Prelude.{Ok, Err}
+use Rattle.std.specs.Prelude.{Ok}
 use Rattle.answers.specs.Ends.{is_done}
-use Rattle.image_meaning.specs.declared.Line.{Line}
-use Rattle.image_meaning.specs.declared.Line.TheVariants.{NoRecord, Record}
+use Rattle.std.specs.Prelude.{Option, Some, None}
+use Rattle.std.specs.Option.{is_some}
+use Rattle.image_meaning.specs.declared.Record.{Record}
 use Rattle.image_meaning.specs.Digits.{words_of, sum_of}
 use Rattle.image_meaning.specs.Lines.{lines_of}
-use Rattle.image_meaning.specs.Records.{is_record, record_of, record_bytes, count_of, address_of, kind_of, data_of}
+use Rattle.image_meaning.specs.Records.{is_record, record_of, saying, record_bytes, count_of, address_of, kind_of, data_of}
 use Rattle.image_meaning.specs.Reading.{data_kind, with_line, line_names, read_answer, memory_after}
 use Rattle.image_meaning.specs.Outcomes.{Outcome, TextOutcome}
 use Rattle.image_meaning.specs.Outcomes.{data_record, end_record, no_record, sum_wrong, other_type, data_misplaced, end_misplaced, too_early, no_end_record, line_behind}
@@ -25,42 +26,30 @@ use Rattle.image_meaning.proofs.ExactlyWhen.{exactly_when}
 
 -- ---- a record's fields are those of its line
 
-abbrev count_in : Line → ℕ
-count_in NoRecord = 0
-count_in (Record count address kind sum) = count
+abbrev said_or : Option Record → Record
+said_or None = record { heading = record { count = 0; address = 0; kind = 0 }; sum = 0 }
+said_or (Some r) = r
 
-abbrev address_in : Line → ℕ
-address_in NoRecord = 0
-address_in (Record count address kind sum) = address
-
-abbrev kind_in : Line → ℕ
-kind_in NoRecord = 0
-kind_in (Record count address kind sum) = kind
-
-abbrev is_some : Line → Bool
-is_some NoRecord = false
-is_some (Record count address kind sum) = true
-
-module _ (line : List ℕ) {count address kind sum : ℕ} (s : record_of line ≡ Record count address kind sum) where
-  fields : record_of line ≡ Record (count_of line) (address_of line) (kind_of line) (sum_of (record_bytes line) % 256)
+module _ (line : List ℕ) {count address kind sum : ℕ} (s : record_of line ≡ saying count address kind sum) where
+  fields : record_of line ≡ saying (count_of line) (address_of line) (kind_of line) (sum_of (record_bytes line) % 256)
   unfolding record_of
   fields = by_form (is_record line) s
     where
-      by_form : (t : Bool) → cond t (Record (count_of line) (address_of line) (kind_of line) (sum_of (record_bytes line) % 256)) NoRecord
-          ≡ Record count address kind sum →
-          cond t (Record (count_of line) (address_of line) (kind_of line) (sum_of (record_bytes line) % 256)) NoRecord
-          ≡ Record (count_of line) (address_of line) (kind_of line) (sum_of (record_bytes line) % 256)
+      by_form : (t : Bool) → cond t (saying (count_of line) (address_of line) (kind_of line) (sum_of (record_bytes line) % 256)) None
+          ≡ saying count address kind sum →
+          cond t (saying (count_of line) (address_of line) (kind_of line) (sum_of (record_bytes line) % 256)) None
+          ≡ saying (count_of line) (address_of line) (kind_of line) (sum_of (record_bytes line) % 256)
       by_form true e = refl
       by_form false e = absurd (false≢true (ap is_some e))
 
   count_is : count_of line ≡ count
-  count_is = ap count_in (sym fields ∙ s)
+  count_is = ap (λ (s : Option Record). (said_or s).heading.count) (sym fields ∙ s)
 
   address_is : address_of line ≡ address
-  address_is = ap address_in (sym fields ∙ s)
+  address_is = ap (λ (s : Option Record). (said_or s).heading.address) (sym fields ∙ s)
 
   kind_is : kind_of line ≡ kind
-  kind_is = ap kind_in (sym fields ∙ s)
+  kind_is = ap (λ (s : Option Record). (said_or s).heading.kind) (sym fields ∙ s)
 
 -- ---- later records
 

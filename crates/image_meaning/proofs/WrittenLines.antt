@@ -7,10 +7,9 @@ use mathlib.Core.List.{List, [], ◌∷◌, ◌++◌, append_assoc}
 use lib.ListN.{length, drop, length-append}
 use lib.Dec.{eqb}
 use borrow.Author.Tests.{ne_eqb, lt-ltb}
-use Rattle.image_meaning.specs.declared.Line.TheVariants.{Record}
 use Rattle.image_meaning.specs.Digits.{bytes_of, all_bytes, sum_of, digit, hex}
 use Rattle.image_meaning.specs.Lines.{lf, lines_of, before_first, is_end}
-use Rattle.image_meaning.specs.Records.{record_of, record_bytes, count_of, address_of, kind_of}
+use Rattle.image_meaning.specs.Records.{record_of, saying, record_bytes, count_of, address_of, kind_of}
 use Rattle.image_meaning.specs.Writing.{checksum, line_of}
 use Rattle.image_meaning.proofs.RecordCases.{a_record}
 use Rattle.image_meaning.proofs.WrittenDigits.{digit_at_least, byte_read, bytes_read, behind_digits, all_bytes_joined}
@@ -86,7 +85,7 @@ module _ (count high low kind : ℕ) (contents : List ℕ) (l : length contents 
       behind : 11 + 2 * count_of (line_of bytes) ≡ suc (2 * length summed)
       behind = omega (arith, count_read, long)
 
-  pub record_written : record_of (line_of bytes) ≡ Record count (256 * high + low) kind 0
+  pub record_written : record_of (line_of bytes) ≡ saying count (256 * high + low) kind 0
   record_written =
       a_record (line_of bytes) refl (ap all_bytes all_read ∙ all_are) (ap is_end end_read)
       ∙ rw (all_read, count_read, address_read, kind_read, sum_is_0 bytes)

@@ -6,12 +6,12 @@ use mathlib.Core.Bool.{true, cond}
 use lib.Dec.{eqb}
 use mathlib.Core.List.{List, [], ◌∷◌, ◌++◌}
 use lib.Seq.{sets}
-use Rattle.image_meaning.specs.declared.Line.TheVariants.{Record}
+use Rattle.std.specs.Prelude.{Ok}
 use Rattle.image_meaning.specs.declared.Reading.TheVariants.{Open, Ended}
 use Rattle.image_placing.specs.Placing.{stored}
 use Rattle.image_placing.proofs.PlacingCases.{at_its_place}
 use Rattle.image_meaning.specs.Digits.{all_bytes, word_bytes, words_of}
-use Rattle.image_meaning.specs.Records.{record_of, count_of, address_of, data_of}
+use Rattle.image_meaning.specs.Records.{record_of, saying, count_of, address_of, data_of}
 use Rattle.image_meaning.specs.Reading.{data_kind, tested, with_line}
 use Rattle.image_meaning.specs.Writing.{data_line, end_line}
 use Rattle.image_meaning.proofs.WrittenDigits.{all_bytes_joined, word_bytes_are, word_read}
@@ -19,10 +19,10 @@ use Rattle.image_meaning.proofs.WrittenLines.{count_read, address_read, kind_rea
 
 -- ---- the end record
 
-pub end_said : record_of end_line ≡ Record 0 0 1 0
+pub end_said : record_of end_line ≡ saying 0 0 1 0
 end_said = record_written 0 0 0 1 [] refl (omega arith) (omega arith) (omega arith) (omega arith) refl
 
-pub text_ended : (m number end : ℕ) → tested m number end (record_of end_line) ≡ Ended
+pub text_ended : (m number end : ℕ) → tested m number end (record_of end_line) ≡ Ok Ended
 unfolding tested
 text_ended m number end = rw end_said
 
@@ -52,19 +52,18 @@ module _ (i w x y z : ℕ) (hi : i < 4096) (hw : w < 2 ^ 32) (hx : x < 2 ^ 32) (
   low_lt : 16 * i % 256 < 256
   low_lt = omega arith
 
-  pub data_said : record_of (data_line (16 * i) w x y z) ≡ Record 16 (16 * i) 0 0
+  pub data_said : record_of (data_line (16 * i) w x y z) ≡ saying 16 (16 * i) 0 0
   data_said =
       record_written 16 (16 * i / 256) (16 * i % 256) 0 contents refl (omega arith) high_lt low_lt (omega arith) all_are
-      ∙ ap (λ (a : ℕ). Record 16 a 0 0) two_bytes
+      ∙ ap (λ (a : ℕ). saying 16 a 0 0) two_bytes
 
   pub words_read : words_of 4 (data_of (data_line (16 * i) w x y z)) ≡ w ∷ x ∷ y ∷ z ∷ []
   words_read = λ j. word_read w hw j ∷ word_read x hx j ∷ word_read y hy j ∷ word_read z hz j ∷ []
 
-  pub words_placed : (m number : ℕ) → 4 * suc i ≤ m → tested m number (16 * i) (record_of (data_line (16 * i) w x y z)) ≡ Open
-      (16 * suc i)
+  pub words_placed : (m number : ℕ) → 4 * suc i ≤ m → tested m number (16 * i) (record_of (data_line (16 * i) w x y z)) ≡ Ok (Open (16 * suc i))
   unfolding tested
   words_placed m number h =
-      rw (data_said, at_its_place m (16 * i) (16 * i) 16 (omega arith) refl (omega arith) (omega arith)) (ap Open (omega arith))
+      rw (data_said, at_its_place m (16 * i) (16 * i) 16 (omega arith) refl (omega arith) (omega arith)) (ap (λ (e : ℕ). Ok (Open e)) (omega arith))
 
   abbrev line : List ℕ
   line = data_line (16 * i) w x y z

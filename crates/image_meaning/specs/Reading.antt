@@ -38,9 +38,10 @@ data_read (Ok _) number end = Ok (Open end)
 data_read (Err Misplaced) number end = Err (Placement number)
 data_read (Err Early) number end = Err (RecordOrder number)
 
--- what a record says, read when the last data ended at `end`: tested 11, 12, 13, 15 in this order
-unfoldable pub record_tested : ℕ → ℕ → ℕ → Record → ReadSoFar
-record_tested m number end r =
+-- the line of a number, read when the last data ended at `end`: tested 10, 11, 12, 13, 15 in this order
+unfoldable pub tested : ℕ → ℕ → ℕ → Option Record → ReadSoFar
+tested m number end None = Err (LineForm number)
+tested m number end (Some r) =
     cond (eqb r.sum 0)
     (cond (eqb r.heading.kind data_kind)
     (data_read (placing m end r.heading.address r.heading.count) number (r.heading.address + r.heading.count))
@@ -48,11 +49,6 @@ record_tested m number end r =
     (cond (eqb r.heading.count 0 && eqb r.heading.address 0) (Ok Ended) (Err (Placement number)))
     (Err (RecordType number))))
     (Err (LineSum number))
-
--- the line of a number: tested 10 and then what the record says
-unfoldable pub tested : ℕ → ℕ → ℕ → Option Record → ReadSoFar
-tested m number end None = Err (LineForm number)
-tested m number end (Some r) = record_tested m number end r
 
 -- a line behind the end record is refused 14 without further test; what is refused stays so
 abbrev pub next : ℕ → ℕ → ReadSoFar → List ℕ → ReadSoFar
