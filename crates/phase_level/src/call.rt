@@ -22,8 +22,7 @@ const MOST_REQUEST: u8 = 3;
 fn tested(words: usize, program: &[u64], s: PhaseState, request: u8) -> Result<(), Refusal>
     ensures { result ≡ phase_test words program.now s request }
 {
-    let registers = s.registers;
-    machine_tested(words, registers[0], program)?;
+    machine_tested(words, s.registers[0], program)?;
     if !legal(s.mir) {
         return Err(Refusal::Microword(program.len()));
     }
