@@ -5,6 +5,7 @@ ghost use Rattle.datapath.specs.Results.{new_reg, new_pc, new_mbr, new_system, n
 
 use blocks::choice::choose;
 use blocks::memory::Store;
+use control_store::code;
 use control_store::microword::Microword;
 use status::psw::Psw;
 
@@ -13,8 +14,8 @@ fn target_register(trgt: u32, dest: u32) -> u32
     ensures { result ≡ target_register trgt dest }
 {
     match trgt {
-        0 => dest,
-        1 => 1,
+        code::TO_REG_FILE => dest,
+        code::TO_SSP => 1,
         _ => 0,
     }
 }
@@ -45,14 +46,15 @@ pub struct SystemRegisters {
 }
 
 // PC, always or if the jump decision holds, by the old flags.
+#[tactic(auto, unfolding(crate::specs::Results::new_pc))]
 fn pc(trgt: u32, dest: u32, psw: Psw, res: u32, pc: u32) -> u32
     ensures { result ≡ new_pc trgt dest psw res pc }
 {
-    if trgt == 5 {
-        let jump = status::jump::decide(dest, psw);
-        return choose(jump, res, pc);
+    match trgt {
+        code::TO_PC => res,
+        code::TO_PCJ if status::jump::decide(dest, psw) => res,
+        _ => pc,
     }
-    choose(trgt == 4, res, pc)
 }
 
 // MBR: a word read goes before a result.
@@ -99,7 +101,7 @@ pub fn system(
     } = old;
     SystemRegisters {
         pc: pc(trgt, dest, psw, res, old_pc),
-        ir: choose(trgt == 3, res, old_ir),
+        ir: choose(trgt == code::TO_IR, res, old_ir),
         mar: choose(to_mar, res, old_mar),
         mbr: mbr(memory, word, old_mar, res, old_mbr),
     }

@@ -1,94 +1,48 @@
 // One phase, or a refusal.
 ghost use Rattle.std.specs.Prelude.{◌≡◌};
-ghost use Rattle.phase_meaning.specs.Machine.{phase_unpacked, phase_packed};
 ghost use Rattle.phase_meaning.specs.Tests.{phase_test};
 ghost use Rattle.phase_meaning.specs.Call.{phase_done, stores, leaves, phase_call};
 
 use crate::phases;
-use answers::End;
+use answers::Refusal;
 use blocks::memory::{Store, apply};
-use phase_meaning::{PhaseAnswer, PhaseMachine, PhaseState};
+use control_store::machine_tested;
+use control_store::microword::legal;
+use phase_meaning::{PhaseMachine, PhaseState};
 
-// The PSW's other bits are dropped.
-fn unpack(s: PhaseState) -> PhaseMachine
-    ensures { result ≡ phase_unpacked s }
-{
-    let registers = s.registers;
-    let psw = status::psw::from_word(s.psw);
-    PhaseMachine {
-        registers: registers,
-        psw: psw,
-        pc: s.pc,
-        ivec: s.ivec,
-        ir: s.ir,
-        mar: s.mar,
-        mbr: s.mbr,
-        mpc: s.mpc,
-        alatch: s.alatch,
-        blatch: s.blatch,
-        ireq: s.ireq,
-        iack: s.iack,
-        mir: s.mir,
-        phase: s.phase,
-    }
-}
+// The number of phase four, the last.
+const LAST_PHASE: u32 = 3;
 
-fn pack(m: PhaseMachine) -> PhaseState
-    ensures { result ≡ phase_packed m }
-{
-    let registers = m.registers;
-    let psw = status::psw::to_word(m.psw);
-    PhaseState {
-        registers: registers,
-        psw: psw,
-        pc: m.pc,
-        ivec: m.ivec,
-        ir: m.ir,
-        mar: m.mar,
-        mbr: m.mbr,
-        mpc: m.mpc,
-        alatch: m.alatch,
-        blatch: m.blatch,
-        ireq: m.ireq,
-        iack: m.iack,
-        mir: m.mir,
-        phase: m.phase,
-    }
-}
+// The largest request byte: interrupt and reset.
+const MOST_REQUEST: u8 = 3;
 
 // All of a phase call: after the microprogram its MIR, as the word numbered by the length, then 6
 // and 7.
-fn tested(words: usize, program: &[u64], s: PhaseState, request: u8) -> End
+#[tactic(auto, unfolding(phase_meaning::specs::Tests::phase_test))]
+fn tested(words: usize, program: &[u64], s: PhaseState, request: u8) -> Result<(), Refusal>
     ensures { result ≡ phase_test words program.now s request }
 {
-    let zero = s.registers[0];
-    let mir = s.mir;
-    let mpc = s.mpc;
-    let number = s.phase;
-    let lent = control_store::machine_tested(words, zero, program);
-    if !answers::done(lent) {
-        return lent;
+    machine_tested(words, s.registers[0], program)?;
+    if !legal(s.mir) {
+        return Err(Refusal::Microword(program.len()));
     }
-    let legal = control_store::microword::legal(mir);
-    if !legal {
-        return End::Microword(program.len());
-    }
-    let inside = ((mpc as usize) < program.len()) & (number <= 3);
+    let inside = ((s.mpc as usize) < program.len()) & (s.phase <= LAST_PHASE);
     if !inside {
-        return End::Outside;
+        return Err(Refusal::Outside);
     }
-    if 3 < request {
-        return End::Request(0);
+    if MOST_REQUEST < request {
+        return Err(Refusal::Request(0));
     }
-    End::Done
+    Ok(())
 }
 
-// The phase that is next.
+// The phase that is next. Its number stays a number: C lends it and gets it back, and the source's
+// clock is one (GetPhaseClock, pp. 114-118). An enum would be made of it and unmade around one match.
+#[tactic(auto, unfolding(phase_meaning::specs::Call::phase_done))]
 fn phase_done(program: &[u64], memory: &[u32], s: PhaseMachine, request: u8) -> PhaseMachine
     ensures { result ≡ phase_done program.now memory.now s request }
 {
-    let number = s.phase;
-    match number {
+    match s.phase {
         0 => phases::one(program, s, request),
         1 => phases::two(s),
         2 => phases::three(s),
@@ -97,48 +51,41 @@ fn phase_done(program: &[u64], memory: &[u32], s: PhaseMachine, request: u8) -> 
 }
 
 // Only phase four stores.
-fn stores(s: PhaseMachine) -> Store
+#[tactic(auto, unfolding(phase_meaning::specs::Call::stores))]
+fn stores(s: PhaseMachine) -> Option<Store>
     ensures { result ≡ stores s }
 {
-    let number = s.phase;
-    if number == 3 {
+    if s.phase == LAST_PHASE {
         phases::store(s)
     } else {
-        Store::Nothing
+        None
     }
 }
 
 // Phase four would give a next address outside.
+#[tactic(auto, unfolding(phase_meaning::specs::Call::leaves))]
 fn leaves(words: usize, s: PhaseMachine) -> bool
     ensures { result ≡ leaves words s }
 {
-    let last = s.phase == 3;
-    let next = phases::next_address(s) as usize;
-    last & (words <= next)
+    (s.phase == LAST_PHASE) & (words <= phases::next_address(s) as usize)
 }
 
-pub fn phase(program: &[u64], memory: &mut [u32], s: PhaseState, request: u8) -> PhaseAnswer
+#[tactic(auto, unfolding(phase_meaning::specs::Call::phase_call))]
+pub fn phase(
+    program: &[u64],
+    memory: &mut [u32],
+    s: PhaseState,
+    request: u8,
+) -> Result<PhaseState, Refusal>
     ensures value { result ≡ (phase_call program.now memory.old s request).answer }
     ensures memory_after { memory.new ≡ (phase_call program.now memory.old s request).memory }
 {
-    let test = tested(memory.len(), program, s, request);
-    if !answers::done(test) {
-        return PhaseAnswer {
-            end: test,
-            state: s,
-        };
-    }
-    let machine = unpack(s);
+    tested(memory.len(), program, s, request)?;
+    let machine = PhaseMachine::from(s);
     if leaves(program.len(), machine) {
-        return PhaseAnswer {
-            end: End::NextAddress,
-            state: s,
-        };
+        return Err(Refusal::NextAddress);
     }
     let next = phase_done(program, memory, machine, request);
     apply(memory, stores(machine));
-    PhaseAnswer {
-        end: End::Done,
-        state: pack(next),
-    }
+    Ok(PhaseState::from(next))
 }
