@@ -4,6 +4,8 @@
 ghost use Rattle.std.specs.Prelude.{◌≡◌};
 ghost use Rattle.alu.specs.Alu.{added, subtracted, plain, alu};
 
+pub mod code;
+
 use words::predicates::{negative, zero};
 
 // The four status bits: overflow, negative, carry, zero.
@@ -81,16 +83,16 @@ pub fn compute(code: u32, a: u32, b: u32, carry: bool) -> AluOutput
     ensures { result ≡ alu code a b carry }
 {
     match code {
-        0 => add(a, b, false),
-        1 => add(a, b, carry),
-        2 => add(a, 1, false),
-        3 => subtract(a, b, false),
-        4 => subtract(a, b, carry),
-        5 => subtract(a, 1, false),
-        6 => pass(a & b),
-        7 => pass(a ^ b),
-        8 => pass(a | b),
-        9 => pass(!a),
+        code::ADD => add(a, b, false),
+        code::ADD_WITH_CARRY => add(a, b, carry),
+        code::INCREMENT => add(a, 1, false),
+        code::SUBTRACT => subtract(a, b, false),
+        code::SUBTRACT_WITH_CARRY => subtract(a, b, carry),
+        code::DECREMENT => subtract(a, 1, false),
+        code::AND => pass(a & b),
+        code::XOR => pass(a ^ b),
+        code::OR => pass(a | b),
+        code::NOT => pass(!a),
         _ => pass(a),
     }
 }

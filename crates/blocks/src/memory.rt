@@ -9,6 +9,7 @@ pub struct Store {
     pub word: u32,
 }
 
+#[tactic(auto, unfolding(crate::specs::Memory::fetch))]
 pub fn load(memory: &[u32], address: u32) -> u32
     ensures { result ≡ fetch memory.now address }
 {
@@ -20,6 +21,7 @@ pub fn load(memory: &[u32], address: u32) -> u32
 }
 
 // The one place where memory is written.
+#[tactic(auto, unfolding(crate::specs::Memory::store))]
 pub fn apply(memory: &mut [u32], store: Option<Store>)
     ensures { memory.new ≡ applied store memory.old }
 {

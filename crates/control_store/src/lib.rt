@@ -10,6 +10,7 @@ ghost use Rattle.control_store.specs.ControlStore.{word_at, illegal, store_test,
 use crate::microword::legal;
 use answers::Refusal;
 
+pub mod code;
 pub mod microword;
 pub mod sequencer;
 

@@ -3,6 +3,8 @@ ghost use Rattle.std.specs.Prelude.{◌≡◌};
 ghost use Rattle.control_store.specs.Microword.{fields};
 ghost use Rattle.control_store.specs.Codes.{legal_microword};
 
+use crate::code;
+
 // The 24 fields of table 5.12 (p. 119), in its order and by its names.
 #[derive(Clone, Copy)]
 pub struct Microword {
@@ -35,6 +37,7 @@ pub struct Microword {
 impl From<u64> for Microword {
     ghost from_gives = { λ w word. word ≡ fields w };
 
+    #[tactic(auto, unfolding(words::specs::Words::bit, words::specs::Words::field))]
     fn from(w: u64) -> Microword {
         Microword {
             amux: w / 0x80_0000_0000 % 2 == 1,
@@ -66,14 +69,22 @@ impl From<u64> for Microword {
 }
 
 // No bit above the 40 used, and no field with a code that tables 5.13 to 5.18 leave out.
+#[tactic(auto, unfolding(crate::specs::Codes::legal_microword))]
 pub fn legal(w: u64) -> bool
     ensures { result ≡ legal_microword w }
 {
-    let m = Microword::from(w);
-    let alu = m.alu;
-    let srca = m.srca;
-    let srcb = m.srcb;
-    let trgt = m.trgt;
-    let cond = m.cond;
-    (w < 0x100_0000_0000) & (alu <= 10) & (srca <= 5) & (srcb <= 2) & (trgt <= 6) & (cond <= 4)
+    let Microword {
+        alu,
+        srca,
+        srcb,
+        trgt,
+        cond,
+        ..
+    } = Microword::from(w);
+    (w < 0x100_0000_0000)
+        & (alu <= code::NOP)
+        & (srca <= code::FROM_PC)
+        & (srcb <= code::FROM_IR)
+        & (trgt <= code::TO_NOREG)
+        & (cond <= code::JSM)
 }

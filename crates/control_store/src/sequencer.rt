@@ -2,10 +2,13 @@
 ghost use Rattle.std.specs.Prelude.{◌≡◌};
 ghost use Rattle.control_store.specs.Sequencer.{add_bt6, mpc_unit};
 
+use crate::code;
+
 // The address of fetch, where every instruction begins (pp. 124-126).
 pub const FETCH: u32 = 0;
 
 // A sum of 6 bits.
+#[tactic(auto, unfolding(crate::specs::Sequencer::add_bt6))]
 fn add_bt6(a: u32, n: u32) -> u32
     ensures { result ≡ add_bt6 a n }
 {
@@ -14,6 +17,7 @@ fn add_bt6(a: u32, n: u32) -> u32
 
 // In the source's order: the counter, the opcode, a microword's address and condition, the latched
 // request, ie and sm.
+#[tactic(auto, unfolding(crate::specs::Sequencer::mpc_unit))]
 pub fn next_address(
     mpc: u32,
     opcode: u32,
@@ -27,11 +31,10 @@ pub fn next_address(
 {
     let stepped = add_bt6(mpc, 1);
     match cond {
-        0 => stepped,
-        1 => addr,
-        2 => add_bt6(opcode, 4),
-        3 => { if request & ie { addr } else { stepped } }
-        4 => { if sm { addr } else { stepped } }
+        code::JMP => addr,
+        code::JOP => add_bt6(opcode, 4),
+        code::JINT if request & ie => addr,
+        code::JSM if sm => addr,
         _ => stepped,
     }
 }

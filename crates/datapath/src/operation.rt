@@ -11,6 +11,7 @@ use status::psw::{Change, Psw, PswLines};
 // The result that goes onto the C bus, and the flags that the PSW may load: v, n and z are the ALU's,
 // c is the ALU's or the shifter's. It takes the codes that it reads and no microword, since a call
 // that the compiler keeps would copy all of it.
+#[tactic(auto, unfolding(crate::specs::Operation::shifted))]
 pub fn operate(code: u32, shift: u32, csrc: bool, a: u32, b: u32, carry: bool) -> AluOutput
     ensures { result ≡ shifted shift csrc (alu code a b carry) }
 {
@@ -55,6 +56,7 @@ fn lines(word: Microword, flags: Flags) -> PswLines
 }
 
 // No line into the PSW is high but its clock's: most microwords.
+#[tactic(auto, unfolding(crate::specs::Results::quiet))]
 fn quiet(word: Microword) -> bool
     ensures { result ≡ quiet word }
 {
@@ -64,6 +66,7 @@ fn quiet(word: Microword) -> bool
 }
 
 // The PSW stays where no line asks for a change, which is looked at first since it is quick.
+#[tactic(auto, using(crate::proofs::Targets::psw_kept), unfolding(crate::specs::Results::new_psw))]
 pub fn psw(word: Microword, out: AluOutput, psw: Psw) -> Psw
     ensures { result ≡ new_psw word out psw }
 {

@@ -5,21 +5,24 @@ ghost use Rattle.datapath.specs.Results.{new_reg, new_pc, new_mbr, new_system, n
 
 use blocks::choice::choose;
 use blocks::memory::Store;
+use control_store::code;
 use control_store::microword::Microword;
 use status::psw::Psw;
 
 // The register that a target names; register 0, which is never written, where it names none.
+#[tactic(auto, unfolding(crate::specs::Results::target_register))]
 fn target_register(trgt: u32, dest: u32) -> u32
     ensures { result ≡ target_register trgt dest }
 {
     match trgt {
-        0 => dest,
-        1 => 1,
+        code::TO_REG_FILE => dest,
+        code::TO_SSP => 1,
         _ => 0,
     }
 }
 
 // The register that a result is written to, by the old sm; 0 where it is written to none.
+#[tactic(auto, using(crate::proofs::Targets::none_written, crate::proofs::Targets::that_written))]
 pub fn written_register(trgt: u32, sm: bool, dest: u32) -> u32
     ensures { result ≡ written_register trgt sm dest }
 {
@@ -29,6 +32,7 @@ pub fn written_register(trgt: u32, sm: bool, dest: u32) -> u32
 }
 
 // The register file, by the old sm.
+#[tactic(auto, using(crate::proofs::Targets::by_the_rule))]
 pub fn registers(trgt: u32, sm: bool, dest: u32, registers: [u32; 32], res: u32) -> [u32; 32]
     ensures { result ≡ new_reg trgt sm dest registers res }
 {
@@ -45,17 +49,19 @@ pub struct SystemRegisters {
 }
 
 // PC, always or if the jump decision holds, by the old flags.
+#[tactic(auto, unfolding(crate::specs::Results::new_pc))]
 fn pc(trgt: u32, dest: u32, psw: Psw, res: u32, pc: u32) -> u32
     ensures { result ≡ new_pc trgt dest psw res pc }
 {
-    if trgt == 5 {
-        let jump = status::jump::decide(dest, psw);
-        return choose(jump, res, pc);
+    match trgt {
+        code::TO_PC => res,
+        code::TO_PCJ if status::jump::decide(dest, psw) => res,
+        _ => pc,
     }
-    choose(trgt == 4, res, pc)
 }
 
 // MBR: a word read goes before a result.
+#[tactic(auto, using(crate::proofs::Targets::no_read, crate::proofs::Targets::word_read))]
 fn mbr(memory: &[u32], word: Microword, mar: u32, res: u32, mbr: u32) -> u32
     ensures { result ≡ new_mbr memory.now word mar res mbr }
 {
@@ -99,7 +105,7 @@ pub fn system(
     } = old;
     SystemRegisters {
         pc: pc(trgt, dest, psw, res, old_pc),
-        ir: choose(trgt == 3, res, old_ir),
+        ir: choose(trgt == code::TO_IR, res, old_ir),
         mar: choose(to_mar, res, old_mar),
         mbr: mbr(memory, word, old_mar, res, old_mbr),
     }

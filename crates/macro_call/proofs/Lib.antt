@@ -1,3 +1,2 @@
--- Theorems over the definitions of specs/, a file each; the proofs of the functions stand in their folders.
-pub mod StepsCases
+-- A theorem over the definitions of specs/.
 pub mod AsLent

@@ -4,9 +4,9 @@
 
 ghost use Rattle.std.specs.Prelude.{◌≡◌};
 ghost use Rattle.calls.specs.Lending.{found};
-ghost use Rattle.macro_call.specs.Steps.{macro_state, macro_words, avm_steps};
+ghost use Rattle.macro_call.specs.Steps.{macro_state, macro_words, steps_answered, avm_steps};
 
-use answers::Microcycles;
+use answers::{Microcycles, Refusal, Steps};
 use calls::{Answer, answer_of, refuse};
 use macro_meaning::MacroState;
 
@@ -14,11 +14,12 @@ use macro_meaning::MacroState;
 fn macro_state(registers: [u32; 32], state: &[u32; 7]) -> MacroState
     ensures { result ≡ macro_state registers state.now }
 {
+    let [psw, pc, _, _, _, _, ivec] = *state;
     MacroState {
-        registers: registers,
-        psw: state[0],
-        pc: state[1],
-        ivec: state[6],
+        registers,
+        psw,
+        pc,
+        ivec,
     }
 }
 
@@ -26,9 +27,22 @@ fn macro_state(registers: [u32; 32], state: &[u32; 7]) -> MacroState
 fn macro_words(s: MacroState, state: &[u32; 7]) -> [u32; 7]
     ensures { result ≡ macro_words s state.now }
 {
-    [s.psw, s.pc, state[2], state[3], state[4], state[5], s.ivec]
+    let MacroState { psw, pc, ivec, .. } = s;
+    let [_, _, ir, mar, mbr, mpc, _] = *state;
+    [psw, pc, ir, mar, mbr, mpc, ivec]
 }
 
+// Nothing of the micro level shows.
+fn answer(ran: Result<Steps, Refusal>) -> Answer
+    ensures { result ≡ steps_answered ran }
+{
+    match ran {
+        Ok(steps) => answer_of(Ok(()), Microcycles::NONE, steps),
+        Err(refusal) => refuse(refusal),
+    }
+}
+
+#[tactic(auto, using(calls::proofs::Fitting::registers_in_whole, calls::proofs::Fitting::registers_out_whole), unfolding(crate::specs::Steps::avm_steps))]
 pub fn steps(
     memory: &mut [u32],
     registers: &mut [u32],
@@ -38,18 +52,12 @@ pub fn steps(
     ensures { found result memory.new registers.new state.new
         ≡ avm_steps memory.old registers.old state.old requests.now }
 {
-    let number = calls::test(memory.len(), registers.len());
-    if number != 0 {
-        return refuse(number);
+    if let Err(refusal) = calls::test(memory.len(), registers.len()) {
+        return refuse(refusal);
     }
-    let lent = macro_state(calls::registers_in(registers), state);
-    let called = macro_level::run::run(memory, lent, requests);
-    let end = called.end;
-    let steps = called.steps;
-    let after = called.state;
-    let file = after.registers;
-    calls::registers_out(registers, file);
-    *state = macro_words(after, state);
-    let microcycles = Microcycles { count: 0 };
-    answer_of(end, microcycles, steps)
+    let mut seen = macro_state(calls::registers_in(registers), state);
+    let ran = macro_level::run::run(memory, &mut seen, requests);
+    calls::registers_out(registers, seen.registers);
+    *state = macro_words(seen, state);
+    answer(ran)
 }

@@ -5,38 +5,45 @@ ghost use Rattle.alu.specs.Alu.{alu};
 ghost use Rattle.macro_meaning.specs.Effects.{add, dec, goes, put, mode};
 ghost use Rattle.macro_meaning.specs.Instructions.{jmp, call, interrupted, rti, rtn, gpsw, ppsw, ld, st, shift, arithmetic, logic, noop, computation, effect};
 
-use blocks::choice::choose;
+use alu::{AluOutput, Flags, code};
 use blocks::memory::{Store, load};
 use macro_meaning::{Effect, Operands};
+use status::jump::decide;
 use status::psw::Psw;
-use std::num::{wrapping_add_u32, wrapping_sub_u32};
+use words::shifter;
+
+// The number of the supervisor's stack pointer.
+pub const SSP: u32 = 1;
+
+// The interrupt step's entry in the list.
+pub const INTERRUPT_STEP: u32 = 32;
 
 // The sum of two words.
+#[tactic(auto, unfolding(alu::specs::Alu::sum, words::specs::Words::wordn))]
 fn add(a: u32, b: u32) -> u32
     ensures { result ≡ add a b }
 {
-    wrapping_add_u32(a, b)
+    a.wrapping_add(b)
 }
 
+#[tactic(auto, using(alu::proofs::Sums::difference_is))]
 fn dec(a: u32) -> u32
     ensures { result ≡ dec a }
 {
-    wrapping_sub_u32(a, 1)
+    a.wrapping_sub(1)
 }
 
 // No register is written and nothing is stored.
 fn go(o: Operands, psw: Psw, pc: u32) -> Effect
     ensures { result ≡ goes o psw pc }
 {
-    let old = o.psw;
-    let store = Store::Nothing;
     Effect {
-        sm: old.sm,
+        sm: o.psw.sm,
         register: 0,
         value: 0,
-        psw: psw,
-        pc: pc,
-        store: store,
+        psw,
+        pc,
+        store: None,
     }
 }
 
@@ -44,17 +51,10 @@ fn go(o: Operands, psw: Psw, pc: u32) -> Effect
 fn put(o: Operands, value: u32, psw: Psw) -> Effect
     ensures { result ≡ put o value psw }
 {
-    let old = o.psw;
-    let dest = o.dest;
-    let pc = add(o.pc, 1);
-    let store = Store::Nothing;
     Effect {
-        sm: old.sm,
-        register: dest,
-        value: value,
-        psw: psw,
-        pc: pc,
-        store: store,
+        register: o.dest,
+        value,
+        ..go(o, psw, add(o.pc, 1))
     }
 }
 
@@ -62,228 +62,203 @@ fn put(o: Operands, value: u32, psw: Psw) -> Effect
 fn mode(psw: Psw, sm: bool, ie: bool) -> Psw
     ensures { result ≡ mode psw sm ie }
 {
-    let mut next = psw;
-    next.sm = sm;
-    next.ie = ie;
-    next
+    Psw { sm, ie, ..psw }
 }
 
+#[tactic(auto, unfolding(macro_meaning::specs::Instructions::jmp))]
 fn jmp(o: Operands) -> Effect
     ensures { result ≡ jmp o }
 {
-    let psw = o.psw;
-    let jumps = status::jump::decide(o.dest, psw);
-    let target = add(o.a, o.imm);
-    let next = add(o.pc, 1);
-    let pc = choose(jumps, target, next);
-    go(o, psw, pc)
+    let pc = if decide(o.dest, o.psw) {
+        add(o.a, o.imm)
+    } else {
+        add(o.pc, 1)
+    };
+    go(o, o.psw, pc)
 }
 
 // The target and the stored word are read before R[d] moves.
+#[tactic(auto, unfolding(macro_meaning::specs::Instructions::call))]
 fn call(o: Operands) -> Effect
     ensures { result ≡ call o }
 {
-    let psw = o.psw;
-    let dest = o.dest;
-    let top = o.d;
-    let moved = add(o.d, 1);
-    let target = add(o.a, o.imm);
-    let back = add(o.pc, 1);
-    let store = Store::Word(top, back);
     Effect {
-        sm: psw.sm,
-        register: dest,
-        value: moved,
-        psw: psw,
-        pc: target,
-        store: store,
+        pc: add(o.a, o.imm),
+        store: Some(Store {
+            address: o.d,
+            word: add(o.pc, 1),
+        }),
+        ..put(o, add(o.d, 1), o.psw)
     }
 }
 
 // INT and the interrupt step: `back` is pushed on the supervisor's stack, whose pointer moves under
 // the new PSW.
+#[tactic(auto, unfolding(macro_meaning::specs::Instructions::interrupted))]
 fn interrupted(o: Operands, pc: u32, back: u32) -> Effect
     ensures { result ≡ interrupted o pc back }
 {
-    let top = o.ssp;
     let psw = mode(o.psw, true, false);
-    let moved = add(top, 1);
-    let store = Store::Word(top, back);
     Effect {
         sm: psw.sm,
-        register: 1,
-        value: moved,
-        psw: psw,
-        pc: pc,
-        store: store,
+        register: SSP,
+        value: add(o.ssp, 1),
+        store: Some(Store {
+            address: o.ssp,
+            word: back,
+        }),
+        ..go(o, psw, pc)
     }
 }
 
 // SSP moves under the old PSW.
+#[tactic(auto, unfolding(macro_meaning::specs::Instructions::rti))]
 fn rti(memory: &[u32], o: Operands) -> Effect
     ensures { result ≡ rti memory.now o }
 {
-    let before = o.psw;
-    let psw = mode(before, false, true);
-    let moved = dec(o.ssp);
-    let pc = load(memory, moved);
-    let store = Store::Nothing;
+    let ssp = dec(o.ssp);
     Effect {
-        sm: before.sm,
-        register: 1,
-        value: moved,
-        psw: psw,
-        pc: pc,
-        store: store,
+        register: SSP,
+        value: ssp,
+        ..go(o, mode(o.psw, false, true), load(memory, ssp))
     }
 }
 
+#[tactic(auto, unfolding(macro_meaning::specs::Instructions::rtn))]
 fn rtn(memory: &[u32], o: Operands) -> Effect
     ensures { result ≡ rtn memory.now o }
 {
-    let psw = o.psw;
-    let dest = o.dest;
-    let moved = dec(o.d);
-    let pc = load(memory, moved);
-    let store = Store::Nothing;
+    let top = dec(o.d);
     Effect {
-        sm: psw.sm,
-        register: dest,
-        value: moved,
-        psw: psw,
-        pc: pc,
-        store: store,
+        pc: load(memory, top),
+        ..put(o, top, o.psw)
     }
 }
 
+#[tactic(auto, unfolding(macro_meaning::specs::Instructions::gpsw))]
 fn gpsw(o: Operands) -> Effect
     ensures { result ≡ gpsw o }
 {
-    let psw = o.psw;
-    let word = status::psw::to_word(psw);
-    put(o, word, psw)
+    put(o, u32::from(o.psw), o.psw)
 }
 
 // A whole PSW is taken in supervisor mode alone.
+#[tactic(auto, unfolding(macro_meaning::specs::Instructions::ppsw))]
 fn ppsw(o: Operands) -> Effect
     ensures { result ≡ ppsw o }
 {
-    let old = o.psw;
-    let pc = add(o.pc, 1);
-    if old.sm {
-        let psw = status::psw::from_word(o.d);
-        return go(o, psw, pc);
-    }
-    go(o, old, pc)
+    let psw = if o.psw.sm { Psw::from(o.d) } else { o.psw };
+    go(o, psw, add(o.pc, 1))
 }
 
 // LD and LDI.
+#[tactic(auto, unfolding(macro_meaning::specs::Instructions::ld))]
 fn ld(memory: &[u32], o: Operands, offset: u32) -> Effect
     ensures { result ≡ ld memory.now o offset }
 {
-    let psw = o.psw;
-    let address = add(o.a, offset);
-    let word = load(memory, address);
-    put(o, word, psw)
+    put(o, load(memory, add(o.a, offset)), o.psw)
 }
 
 // ST and STI.
+#[tactic(auto, unfolding(macro_meaning::specs::Instructions::st))]
 fn st(o: Operands, offset: u32) -> Effect
     ensures { result ≡ st o offset }
 {
-    let psw = o.psw;
-    let word = o.d;
-    let address = add(o.a, offset);
-    let pc = add(o.pc, 1);
-    let store = Store::Word(address, word);
     Effect {
-        sm: psw.sm,
-        register: 0,
-        value: 0,
-        psw: psw,
-        pc: pc,
-        store: store,
+        store: Some(Store {
+            address: add(o.a, offset),
+            word: o.d,
+        }),
+        ..go(o, o.psw, add(o.pc, 1))
     }
 }
 
 // LSL, LSR and ASR, by the shifter's code.
+#[tactic(auto, unfolding(macro_meaning::specs::Instructions::shift))]
 fn shift(o: Operands, code: u32) -> Effect
     ensures { result ≡ shift o (shifter code o.a).value (shifter code o.a).carry }
 {
-    let shifted = words::shifter::shift(code, o.a);
-    let mut psw = o.psw;
-    psw.c = shifted.carry;
+    let shifted = shifter::shift(code, o.a);
+    let psw = Psw {
+        c: shifted.carry,
+        ..o.psw
+    };
     put(o, shifted.value, psw)
 }
 
 // ADD, ADDC, SUB and SUBC, by the ALU's code.
+#[tactic(auto, unfolding(macro_meaning::specs::Instructions::arithmetic))]
 fn arithmetic(o: Operands, code: u32, b: u32) -> Effect
     ensures { result ≡ arithmetic o (alu code o.a b o.psw.c) }
 {
-    let mut psw = o.psw;
-    let out = alu::compute(code, o.a, b, psw.c);
-    let flags = out.flags;
-    psw.v = flags.v;
-    psw.n = flags.n;
-    psw.c = flags.c;
-    psw.z = flags.z;
-    put(o, out.value, psw)
+    let AluOutput { value, flags } = alu::compute(code, o.a, b, o.psw.c);
+    let Flags { v, n, c, z } = flags;
+    let psw = Psw {
+        v,
+        n,
+        c,
+        z,
+        ..o.psw
+    };
+    put(o, value, psw)
 }
 
 // BAND, BOR, BXOR and BNOT, by the ALU's code.
+#[tactic(auto, unfolding(macro_meaning::specs::Instructions::logic))]
 fn logic(o: Operands, code: u32, b: u32) -> Effect
     ensures { result ≡ logic o (alu code o.a b o.psw.c) }
 {
-    let mut psw = o.psw;
-    let out = alu::compute(code, o.a, b, psw.c);
-    let flags = out.flags;
-    psw.n = flags.n;
-    psw.z = flags.z;
-    put(o, out.value, psw)
+    let AluOutput { value, flags } = alu::compute(code, o.a, b, o.psw.c);
+    let Flags { n, z, .. } = flags;
+    put(o, value, Psw { n, z, ..o.psw })
 }
 
+#[tactic(auto, unfolding(macro_meaning::specs::Instructions::noop))]
 fn noop(o: Operands) -> Effect
     ensures { result ≡ noop o }
 {
-    let psw = o.psw;
-    let pc = add(o.pc, 1);
-    go(o, psw, pc)
+    go(o, o.psw, add(o.pc, 1))
 }
 
 // Opcodes 16 to 30, and NOOP for every other.
+#[tactic(auto, unfolding(alu::specs::Alu::alu, macro_meaning::specs::Instructions::computation))]
 fn computation(key: u32, o: Operands) -> Effect
     ensures { result ≡ computation key o }
 {
-    let b = o.b;
-    let imm = o.imm;
+    let Operands { b, imm, .. } = o;
     match key {
-        16 => arithmetic(o, 0, b),
-        17 => arithmetic(o, 1, b),
-        18 => arithmetic(o, 3, b),
-        19 => arithmetic(o, 4, b),
-        20 => logic(o, 6, b),
-        21 => logic(o, 8, b),
-        22 => logic(o, 7, b),
-        23 => logic(o, 9, b),
-        24 => arithmetic(o, 0, imm),
-        25 => arithmetic(o, 1, imm),
-        26 => arithmetic(o, 3, imm),
-        27 => arithmetic(o, 4, imm),
-        28 => logic(o, 6, imm),
-        29 => logic(o, 8, imm),
-        30 => logic(o, 7, imm),
+        16 => arithmetic(o, code::ADD, b),
+        17 => arithmetic(o, code::ADD_WITH_CARRY, b),
+        18 => arithmetic(o, code::SUBTRACT, b),
+        19 => arithmetic(o, code::SUBTRACT_WITH_CARRY, b),
+        20 => logic(o, code::AND, b),
+        21 => logic(o, code::OR, b),
+        22 => logic(o, code::XOR, b),
+        23 => logic(o, code::NOT, b),
+        24 => arithmetic(o, code::ADD, imm),
+        25 => arithmetic(o, code::ADD_WITH_CARRY, imm),
+        26 => arithmetic(o, code::SUBTRACT, imm),
+        27 => arithmetic(o, code::SUBTRACT_WITH_CARRY, imm),
+        28 => logic(o, code::AND, imm),
+        29 => logic(o, code::OR, imm),
+        30 => logic(o, code::XOR, imm),
         _ => noop(o),
     }
 }
 
-// By the entry of the list: 0 to 31 the opcodes, 32 the interrupt step.
+// By the entry of the list: 0 to 31 the opcodes, 32 the interrupt step. The entries are numbers because
+// the list is the source's own (`macro_inst_list`, pp. 130-137), whose opcodes are read off a word.
+#[tactic(auto, unfolding(words::specs::Shifter::shifter, macro_meaning::specs::Instructions::effect))]
 pub fn perform(key: u32, memory: &[u32], o: Operands) -> Effect
     ensures { result ≡ effect key memory.now o }
 {
-    let b = o.b;
-    let imm = o.imm;
-    let pc = o.pc;
-    let vector = o.ivec;
+    let Operands {
+        b,
+        imm,
+        pc,
+        ivec,
+        ..
+    } = o;
     match key {
         0 => jmp(o),
         1 => call(o),
@@ -293,13 +268,13 @@ pub fn perform(key: u32, memory: &[u32], o: Operands) -> Effect
         5 => ppsw(o),
         6 => ld(memory, o, b),
         7 => st(o, b),
-        8 => shift(o, 0),
-        9 => shift(o, 1),
-        10 => shift(o, 2),
+        8 => shift(o, shifter::LEFT),
+        9 => shift(o, shifter::RIGHT),
+        10 => shift(o, shifter::ARITHMETIC_RIGHT),
         11 => rtn(memory, o),
         14 => ld(memory, o, imm),
         15 => st(o, imm),
-        32 => interrupted(o, 255 & vector, pc),
+        INTERRUPT_STEP => interrupted(o, 255 & ivec, pc),
         _ => computation(key, o),
     }
 }

@@ -1,91 +1,48 @@
 // A run: one step for each request byte.
 ghost use Rattle.std.specs.Prelude.{◌≡◌};
-ghost use Rattle.macro_meaning.specs.Machine.{macro_unpacked, macro_packed};
 ghost use Rattle.macro_meaning.specs.Run.{macro_test, steps, run};
 
 use crate::step::step;
-use answers::{End, Steps};
-use macro_meaning::{MacroAnswer, MacroMachine, MacroState};
+use answers::{Refusal, Steps};
+use macro_meaning::{MacroMachine, MacroState};
 
-// The PSW's other bits are dropped.
-fn unpack(s: MacroState) -> MacroMachine
-    ensures { result ≡ macro_unpacked s }
-{
-    let registers = s.registers;
-    let psw = status::psw::from_word(s.psw);
-    MacroMachine {
-        registers: registers,
-        psw: psw,
-        pc: s.pc,
-        ivec: s.ivec,
-    }
-}
-
-fn pack(m: MacroMachine) -> MacroState
-    ensures { result ≡ macro_packed m }
-{
-    let registers = m.registers;
-    let psw = status::psw::to_word(m.psw);
-    MacroState {
-        registers: registers,
-        psw: psw,
-        pc: m.pc,
-        ivec: m.ivec,
-    }
-}
+// The largest request byte: there is no reset at this level.
+const MOST_REQUEST: u8 = 1;
 
 // What a run is lent, lowest number first.
-fn tested(words: usize, s: MacroState, requests: &[u8]) -> End
-    ensures { result ≡ macro_test words s requests.now }
+#[tactic(auto, using(answers::proofs::FirstPlace::found, answers::proofs::FirstPlace::not_found), unfolding(macro_meaning::specs::Run::macro_test))]
+fn tested(words: usize, s: &MacroState, requests: &[u8]) -> Result<(), Refusal>
+    ensures { result ≡ macro_test words s.now requests.now }
 {
-    let zero = s.registers[0];
-    let lent = answers::tests::lent(words, zero);
-    if !answers::done(lent) {
-        return lent;
+    answers::tests::lent(words, s.registers[0])?;
+    match answers::tests::first_above(MOST_REQUEST, requests) {
+        Some(place) => Err(Refusal::Request(place)),
+        None => Ok(()),
     }
-    let place = answers::tests::first_above(1, requests);
-    if place < requests.len() {
-        return End::Request(place);
-    }
-    End::Done
 }
 
-// The loop.
+// One step for each byte, 1 for a request that is up.
 fn stepped(memory: &mut [u32], s: MacroMachine, requests: &[u8]) -> MacroMachine
     ensures value { result ≡ (steps memory.old s requests.now).machine }
     ensures memory_after { memory.new ≡ (steps memory.old s requests.now).memory }
 {
     let mut machine = s;
-    let mut at: usize = 0;
-    while at < requests.len() {
-        machine = step(memory, machine, requests[at] == 1);
-        at += 1;
+    for request in requests {
+        machine = step(memory, machine, *request == 1);
     }
     machine
 }
 
-pub fn run(memory: &mut [u32], s: MacroState, requests: &[u8]) -> MacroAnswer
-    ensures value { result ≡ (run memory.old s requests.now).answer }
-    ensures memory_after { memory.new ≡ (run memory.old s requests.now).memory }
+#[tactic(auto, unfolding(macro_meaning::specs::Run::run))]
+pub fn run(memory: &mut [u32], state: &mut MacroState, requests: &[u8]) -> Result<Steps, Refusal>
+    ensures value { result ≡ (run memory.old state.old requests.now).answer }
+    ensures state_after { state.new ≡ (run memory.old state.old requests.now).state }
+    ensures memory_after { memory.new ≡ (run memory.old state.old requests.now).memory }
 {
-    let test = tested(memory.len(), s, requests);
-    if !answers::done(test) {
-        let none = Steps { count: 0 };
-        return MacroAnswer {
-            end: test,
-            steps: none,
-            state: s,
-        };
-    }
-    let machine = stepped(memory, unpack(s), requests);
-    let state = pack(machine);
-    let end = End::Done;
-    let steps = Steps {
+    tested(memory.len(), state, requests)?;
+    let machine = stepped(memory, MacroMachine::from(*state), requests);
+    *state = MacroState::from(machine);
+    Ok(Steps {
         count: requests.len() as u64,
-    };
-    MacroAnswer {
-        end: end,
-        steps: steps,
-        state: state,
-    }
+    })
 }

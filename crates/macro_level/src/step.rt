@@ -2,76 +2,85 @@
 ghost use Rattle.std.specs.Prelude.{◌≡◌};
 ghost use Rattle.macro_meaning.specs.Step.{operands, selected, performed, step};
 
-use crate::instructions::perform;
-use blocks::choice::choose;
+use crate::instructions::{INTERRUPT_STEP, SSP, perform};
 use blocks::memory::{apply, load};
 use macro_meaning::{Effect, MacroMachine, Operands};
 use status::psw::Psw;
-use words::instruction::decode;
+use words::instruction::Instruction;
 use words::registers::update;
 
 // The registers that the word names, and the rest that an instruction reads.
+#[tactic(auto, using(words::proofs::FieldBounds::dest_lt, words::proofs::FieldBounds::srca_lt, words::proofs::FieldBounds::srcb_lt))]
 fn operands(w: u32, m: MacroMachine) -> Operands
     ensures { result ≡ operands w m }
 {
-    let psw = m.psw;
-    let pc = m.pc;
-    let ivec = m.ivec;
-    let instruction = decode(w);
-    let dest = instruction.dest;
-    let imm = instruction.imm;
-    let a = m.registers[instruction.srca as usize];
-    let b = m.registers[instruction.srcb as usize];
-    let d = m.registers[dest as usize];
-    let ssp = m.registers[1];
+    let Instruction {
+        dest,
+        srca,
+        srcb,
+        imm,
+        ..
+    } = Instruction::from(w);
+    let MacroMachine {
+        registers,
+        psw,
+        pc,
+        ivec,
+    } = m;
     Operands {
-        a: a,
-        b: b,
-        d: d,
-        ssp: ssp,
-        imm: imm,
-        dest: dest,
-        psw: psw,
-        pc: pc,
-        ivec: ivec,
+        a: registers[srca as usize],
+        b: registers[srcb as usize],
+        d: registers[dest as usize],
+        ssp: registers[SSP as usize],
+        imm,
+        dest,
+        psw,
+        pc,
+        ivec,
     }
 }
 
 // The list's entry: the request and ie are looked at here and nowhere else.
+#[tactic(auto, unfolding(macro_meaning::specs::Step::selected))]
 fn selected(request: bool, psw: Psw, w: u32) -> u32
     ensures { result ≡ selected request psw w }
 {
-    let instruction = decode(w);
-    choose(request & psw.ie, 32, instruction.opcode)
+    if request & psw.ie {
+        INTERRUPT_STEP
+    } else {
+        Instruction::from(w).opcode
+    }
 }
 
 // The state after an effect, but for its store.
 fn performed(e: Effect, m: MacroMachine) -> MacroMachine
     ensures { result ≡ performed e m }
 {
-    let psw = e.psw;
-    let pc = e.pc;
-    let vector = m.ivec;
-    let old = m.registers;
-    let registers = update(e.sm, e.register, old, e.value);
+    let Effect {
+        sm,
+        register,
+        value,
+        psw,
+        pc,
+        ..
+    } = e;
+    let registers = update(sm, register, m.registers, value);
     MacroMachine {
-        registers: registers,
-        psw: psw,
-        pc: pc,
-        ivec: vector,
+        registers,
+        psw,
+        pc,
+        ivec: m.ivec,
     }
 }
 
+#[tactic(auto, unfolding(macro_meaning::specs::Step::step))]
 pub fn step(memory: &mut [u32], m: MacroMachine, request: bool) -> MacroMachine
     ensures value { result ≡ (step memory.old m request).machine }
     ensures memory_after { memory.new ≡ (step memory.old m request).memory }
 {
-    let psw = m.psw;
     let w = load(memory, m.pc);
-    let read = operands(w, m);
-    let key = selected(request, psw, w);
-    let effect = perform(key, memory, read);
-    let store = effect.store;
-    apply(memory, store);
+    let key = selected(request, m.psw, w);
+    let effect = perform(key, memory, operands(w, m));
+    apply(memory, effect.store);
     performed(effect, m)
 }

@@ -1,5 +1,4 @@
 -- Theorems over the definitions of specs/, a file each; macro_level's functions are proved with the first of them.
-pub mod StepParts
 pub mod RunTests
 pub mod RunTurns
 pub mod RunCalls

@@ -7,21 +7,22 @@ ghost use Rattle.calls.specs.Lending.{found};
 ghost use Rattle.micro_call.specs.Runs.{micro_state, state_words, avm_run};
 
 use calls::{Answer, answer_of, refuse};
-use micro_meaning::MicroState;
+use micro_meaning::{MicroState, Ran};
 
 // A state from the registers and the state words.
 fn micro_state(registers: [u32; 32], state: &[u32; 7]) -> MicroState
     ensures { result ≡ micro_state registers state.now }
 {
+    let [psw, pc, ir, mar, mbr, mpc, ivec] = *state;
     MicroState {
-        registers: registers,
-        psw: state[0],
-        pc: state[1],
-        ir: state[2],
-        mar: state[3],
-        mbr: state[4],
-        mpc: state[5],
-        ivec: state[6],
+        registers,
+        psw,
+        pc,
+        ir,
+        mar,
+        mbr,
+        mpc,
+        ivec,
     }
 }
 
@@ -32,6 +33,7 @@ fn state_words(s: MicroState) -> [u32; 7]
     [s.psw, s.pc, s.ir, s.mar, s.mbr, s.mpc, s.ivec]
 }
 
+#[tactic(auto, unfolding(crate::specs::Runs::avm_run), using(calls::proofs::Fitting::registers_in_whole, calls::proofs::Fitting::registers_out_whole))]
 pub fn run(
     program: &[u64],
     memory: &mut [u32],
@@ -43,16 +45,16 @@ pub fn run(
         ≡ avm_run program.now memory.old registers.old state.old
         requests.now }
 {
-    let number = calls::test(memory.len(), registers.len());
-    if number != 0 {
-        return refuse(number);
+    if let Err(refusal) = calls::test(memory.len(), registers.len()) {
+        return refuse(refusal);
     }
     let lent = micro_state(calls::registers_in(registers), state);
-    let called = micro_level::run(program, memory, lent, requests);
-    let end = called.end;
-    let microcycles = called.microcycles;
-    let steps = called.steps;
-    let after = called.state;
+    let Ran {
+        end,
+        microcycles,
+        steps,
+        state: after,
+    } = micro_level::run(program, memory, lent, requests);
     let file = after.registers;
     calls::registers_out(registers, file);
     *state = state_words(after);

@@ -3,111 +3,67 @@
 #![tactic(auto)]
 
 ghost use Rattle.std.specs.Prelude.{◌≡◌};
-ghost use Rattle.micro_meaning.specs.Machine.{micro_unpacked, micro_packed};
 ghost use Rattle.micro_meaning.specs.Run.{micro_test, answer_of, run};
 
-use answers::{End, Microcycles, Steps};
+use answers::{Microcycles, Refusal, Steps};
 use micro_meaning::{MicroAnswer, MicroMachine, MicroState, Ran};
 
 mod microcycle;
 mod run_loop;
 
-// The PSW's other bits are dropped.
-fn unpack(s: MicroState) -> MicroMachine
-    ensures { result ≡ micro_unpacked s }
-{
-    let registers = s.registers;
-    let psw = status::psw::from_word(s.psw);
-    MicroMachine {
-        registers: registers,
-        psw: psw,
-        pc: s.pc,
-        ir: s.ir,
-        mar: s.mar,
-        mbr: s.mbr,
-        mpc: s.mpc,
-        ivec: s.ivec,
-    }
-}
-
-fn pack(m: MicroMachine) -> MicroState
-    ensures { result ≡ micro_packed m }
-{
-    let registers = m.registers;
-    let psw = status::psw::to_word(m.psw);
-    MicroState {
-        registers: registers,
-        psw: psw,
-        pc: m.pc,
-        ir: m.ir,
-        mar: m.mar,
-        mbr: m.mbr,
-        mpc: m.mpc,
-        ivec: m.ivec,
-    }
-}
-
 // What a run is lent, lowest number first.
-fn tested(words: usize, program: &[u64], s: MicroState, requests: &[u8]) -> End
+#[tactic(auto, unfolding(micro_meaning::specs::Run::micro_test), using(answers::proofs::FirstPlace::found, answers::proofs::FirstPlace::not_found))]
+fn tested(words: usize, program: &[u64], s: MicroState, requests: &[u8]) -> Result<(), Refusal>
     ensures { result ≡ micro_test words program.now s requests.now }
 {
-    let zero = s.registers[0];
-    let mpc = s.mpc as usize;
-    let lent = control_store::machine_tested(words, zero, program);
-    if !answers::done(lent) {
-        return lent;
+    control_store::machine_tested(words, s.registers[0], program)?;
+    if program.len() <= s.mpc as usize {
+        return Err(Refusal::Outside);
     }
-    if program.len() <= mpc {
-        return End::Outside;
+    match answers::tests::first_above(3, requests) {
+        Some(place) => Err(Refusal::Request(place)),
+        None => Ok(()),
     }
-    let place = answers::tests::first_above(3, requests);
-    if place < requests.len() {
-        return End::Request(place);
-    }
-    End::Done
 }
 
 // The state after the last completed microcycle; with none completed, the state as lent.
-fn answer(s: MicroState, ran: Ran) -> MicroAnswer
+fn answer(s: MicroState, ran: Ran<MicroMachine>) -> MicroAnswer
     ensures { result ≡ answer_of s ran }
 {
-    let end = ran.end;
-    let microcycles = ran.microcycles;
-    let steps = ran.steps;
-    let machine = ran.machine;
-    let untouched = !answers::done(end) & (microcycles.count == 0);
-    if untouched {
-        return MicroAnswer {
-            end: end,
-            microcycles: microcycles,
-            steps: steps,
-            state: s,
-        };
-    }
-    let state = pack(machine);
-    MicroAnswer {
-        end: end,
-        microcycles: microcycles,
-        steps: steps,
-        state: state,
+    let Ran {
+        end,
+        microcycles,
+        steps,
+        state,
+    } = ran;
+    let untouched = end.is_err() & (microcycles.count == 0);
+    Ran {
+        end,
+        microcycles,
+        steps,
+        state: if untouched {
+            s
+        } else {
+            MicroState::from(state)
+        },
     }
 }
 
+#[tactic(auto, unfolding(micro_meaning::specs::Run::run))]
 pub fn run(program: &[u64], memory: &mut [u32], s: MicroState, requests: &[u8]) -> MicroAnswer
     ensures value { result ≡ (run program.now memory.old s requests.now).answer }
     ensures memory_after { memory.new ≡ (run program.now memory.old s requests.now).memory }
 {
-    let test = tested(memory.len(), program, s, requests);
-    if !answers::done(test) {
-        let microcycles = Microcycles { count: 0 };
-        let steps = Steps { count: 0 };
-        return MicroAnswer {
-            end: test,
-            microcycles: microcycles,
-            steps: steps,
+    if let Err(refusal) = tested(memory.len(), program, s, requests) {
+        return Ran {
+            end: Err(refusal),
+            microcycles: Microcycles::NONE,
+            steps: Steps::NONE,
             state: s,
         };
     }
-    let ran = run_loop::run_on(program, memory, unpack(s), requests);
-    answer(s, ran)
+    answer(
+        s,
+        run_loop::run_on(program, memory, MicroMachine::from(s), requests),
+    )
 }

@@ -6,71 +6,67 @@ ghost use Rattle.micro_meaning.specs.Performing.{next_of, performed};
 
 use blocks::choice::choose;
 use blocks::sources;
-use control_store::microword::fields;
+use control_store::microword::Microword;
 use control_store::sequencer;
 use datapath::operation::operate;
 use datapath::results::SystemRegisters;
 use datapath::{operation, results};
 use micro_meaning::{Core, Performed, Read};
-use words::instruction::decode;
+use words::instruction::Instruction;
 
 // Where a microword goes next, from the request and the PSW before it.
+#[tactic(auto, unfolding(micro_meaning::specs::Performing::next_of, datapath::specs::Results::new_mpc, phase_meaning::specs::Phases::interrupt, words::specs::Words::bit))]
 pub fn next(word: u64, core: Core, request: u8) -> u32
     ensures { result ≡ next_of word core request }
 {
-    let m = fields(word);
-    let instruction = decode(core.ir);
-    let psw = core.psw;
+    let m = Microword::from(word);
     let interrupt = request % 2 == 1;
     sequencer::next_address(
         core.mpc,
-        instruction.opcode,
+        Instruction::from(core.ir).opcode,
         m.addr,
         m.cond,
         interrupt,
-        psw.ie,
-        psw.sm,
+        core.psw.ie,
+        core.psw.sm,
     )
 }
 
 // A microcycle under that microword, with its next address given.
+#[tactic(auto, unfolding(micro_meaning::specs::Performing::performed, datapath::specs::Operation::operated))]
 pub fn perform(memory: &[u32], word: u64, core: Core, read: Read, next: u32) -> Performed
     ensures { result ≡ performed memory.now word core read next }
 {
-    let m = fields(word);
-    let instruction = decode(core.ir);
-    let dest = instruction.dest;
-    let psw = core.psw;
-    let number = status::psw::to_word(psw);
-    let a = sources::a(m.srca, read.srca, read.dest, read.ssp, number, core.pc);
-    let b = sources::b(m.srcb, read.srcb, core.ivec, instruction.imm);
-    let mar = choose(m.pmux & m.mar, core.pc, core.mar);
-    let input = choose(m.amux, core.mbr, a);
+    let m = Microword::from(word);
+    let Instruction { dest, imm, .. } = Instruction::from(core.ir);
+    let Core {
+        psw,
+        pc,
+        ir,
+        mar,
+        mbr,
+        ivec,
+        ..
+    } = core;
+    let a = sources::a(m.srca, read.srca, read.dest, read.ssp, u32::from(psw), pc);
+    let b = sources::b(m.srcb, read.srcb, ivec, imm);
+    let mar = choose(m.pmux & m.mar, pc, mar);
+    let input = choose(m.amux, mbr, a);
     let out = operate(m.alu, m.shft, m.csrc, input, b, psw.c);
-    let result = out.value;
-    let old = SystemRegisters {
-        pc: core.pc,
-        ir: core.ir,
-        mar: mar,
-        mbr: core.mbr,
-    };
-    let system = results::system(memory, m, dest, psw, result, old);
-    let register = results::written_register(m.trgt, psw.sm, dest);
-    let store = results::store(m, mar, core.mbr);
-    let next_psw = operation::psw(m, out, psw);
-    let after = Core {
-        psw: next_psw,
-        pc: system.pc,
-        ir: system.ir,
-        mar: system.mar,
-        mbr: system.mbr,
-        mpc: next,
-        ivec: core.ivec,
-    };
+    let old = SystemRegisters { pc, ir, mar, mbr };
+    let system = results::system(memory, m, dest, psw, out.value, old);
     Performed {
-        core: after,
-        register: register,
-        value: result,
-        store: store,
+        core: Core {
+            psw: operation::psw(m, out, psw),
+            pc: system.pc,
+            ir: system.ir,
+            mar: system.mar,
+            mbr: system.mbr,
+            mpc: next,
+            ..core
+        },
+        register: results::written_register(m.trgt, psw.sm, dest),
+        value: out.value,
+        store: results::store(m, mar, mbr),
     }
 }

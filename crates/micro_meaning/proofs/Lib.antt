@@ -1,10 +1,10 @@
 -- Theorems over the definitions of specs/, a file each; micro_level's functions are proved with them.
 pub mod FourPhases
 pub mod SameMicrocycle
-pub mod Performs
 pub mod RunInduction
 pub mod RunKeeps
 pub mod RunJoins
+pub mod RunTurns
 pub mod RunTests
 pub mod RunCalls
 pub mod RunsInARow

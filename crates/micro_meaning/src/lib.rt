@@ -143,24 +143,14 @@ impl From<MicroMachine> for Core {
     ghost from_gives = { λ s core. core ≡ core_of s };
 
     fn from(s: MicroMachine) -> Core {
-        let MicroMachine {
-            psw,
-            pc,
-            ir,
-            mar,
-            mbr,
-            mpc,
-            ivec,
-            ..
-        } = s;
         Core {
-            psw,
-            pc,
-            ir,
-            mar,
-            mbr,
-            mpc,
-            ivec,
+            psw: s.psw,
+            pc: s.pc,
+            ir: s.ir,
+            mar: s.mar,
+            mbr: s.mbr,
+            mpc: s.mpc,
+            ivec: s.ivec,
         }
     }
 }
@@ -170,24 +160,15 @@ impl Core {
     pub fn with(self, registers: [u32; 32]) -> MicroMachine
         ensures { result ≡ machine registers self }
     {
-        let Core {
-            psw,
-            pc,
-            ir,
-            mar,
-            mbr,
-            mpc,
-            ivec,
-        } = self;
         MicroMachine {
             registers,
-            psw,
-            pc,
-            ir,
-            mar,
-            mbr,
-            mpc,
-            ivec,
+            psw: self.psw,
+            pc: self.pc,
+            ir: self.ir,
+            mar: self.mar,
+            mbr: self.mbr,
+            mpc: self.mpc,
+            ivec: self.ivec,
         }
     }
 }

@@ -1,10 +1,9 @@
 -- avm_phase: what it answers and leaves in every lent place. All but 2 is the phase level's. Assumes nothing.
-use Rattle.std.specs.Prelude.{ℕ, cond, not, List, [], ◌∷◌, eqb, length, get_or}
+use Rattle.std.specs.Prelude.{ℕ, not, List, [], ◌∷◌, eqb, length, get_or, Ok, Err}
+use Rattle.std.specs.Result.{result_and}
 use mir.Val.{bool_byte as num}
-use Rattle.answers.specs.Ends.{End}
-use Rattle.answers.specs.Ends.{is_done}
-use Rattle.phase_meaning.specs.declared.PhaseState.{PhaseState}
-use Rattle.phase_meaning.specs.Call.{PhaseCalled, phase_call}
+use Rattle.phase_meaning.specs.Machine.{PhaseState}
+use Rattle.phase_meaning.specs.Call.{phase_call}
 use Rattle.calls.specs.declared.Answer.{Answer}
 use Rattle.calls.specs.Answers.{refused, answered}
 use Rattle.calls.specs.Lending.{first_test}
@@ -51,29 +50,15 @@ abbrev pub phase_found : Answer → List ℕ → List ℕ → List ℕ → List 
 phase_found answer mem registers state latches mir phase =
     record { answer = answer; memory = mem; registers = registers; state = state; latches = latches; mir = mir; phase = phase }
 
--- an end without counts
-abbrev pub uncounted : End → Answer
-uncounted end = answered end (record { count = 0 }) (record { count = 0 })
-
-abbrev pub phase_call_found : PhaseCalled → PhaseFound
-phase_call_found called =
-    let s = called.answer.state in
-    record {
-      answer = uncounted called.answer.end;
-      memory = called.memory;
-      registers = s.registers;
-      state = phase_words s;
-      latches = latch_words s;
-      mir = s.mir;
-      phase = s.phase;
-    }
+-- what is found after a phase that was done
+abbrev pub phase_done_found : List ℕ → PhaseState → PhaseFound
+phase_done_found mem s =
+    phase_found (answered (Ok tt) (record { count = 0 }) (record { count = 0 })) mem s.registers (phase_words s) (latch_words s) s.mir s.phase
 
 unfoldable pub avm_phase : List ℕ → List ℕ → List ℕ → List ℕ → List ℕ → ℕ → ℕ → ℕ → PhaseFound
 avm_phase program mem registers state latches mir phase request =
-    let number = first_test (length mem) (length registers) in
     let called = phase_call program mem (phase_state registers state latches mir phase) request in
-    cond (eqb number 0)
-    (cond (is_done called.answer.end)
-    (phase_call_found called)
-    (phase_found (uncounted called.answer.end) mem registers state latches mir phase))
-    (phase_found (refused number) mem registers state latches mir phase)
+    elim (result_and (first_test (length mem) (length registers)) called.answer) [
+      | Ok after ↦ phase_done_found called.memory after
+      | Err refusal ↦ phase_found (refused refusal) mem registers state latches mir phase
+    ]

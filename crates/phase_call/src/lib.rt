@@ -19,25 +19,29 @@ fn phase_state(
 ) -> PhaseState
     ensures { result ≡ phase_state registers state.now latches.now mir phase }
 {
+    let [psw, pc, ir, mar, mbr, mpc, ivec] = *state;
+    let [alatch, blatch, request, acknowledge] = *latches;
     PhaseState {
-        registers: registers,
-        psw: state[0],
-        pc: state[1],
-        ivec: state[6],
-        ir: state[2],
-        mar: state[3],
-        mbr: state[4],
-        mpc: state[5],
-        alatch: latches[0],
-        blatch: latches[1],
-        ireq: latches[2] != 0,
-        iack: latches[3] != 0,
-        mir: mir,
-        phase: phase,
+        registers,
+        psw,
+        pc,
+        ivec,
+        ir,
+        mar,
+        mbr,
+        mpc,
+        alatch,
+        blatch,
+        ireq: request != 0,
+        iack: acknowledge != 0,
+        mir,
+        phase,
     }
 }
 
-// The state words again, and the latch words.
+// The state words again, and the latch words. No From: the order is C's, which the crate that owns
+// PhaseState doesn't know. micro_call has the first line for its own struct: one function for both would
+// be lent the seven words one by one.
 fn phase_words(s: PhaseState) -> [u32; 7]
     ensures { result ≡ phase_words s }
 {
@@ -50,6 +54,7 @@ fn latch_words(s: PhaseState) -> [u32; 4]
     [s.alatch, s.blatch, s.ireq as u32, s.iack as u32]
 }
 
+#[tactic(auto, using(crate::proofs::PhaseCases::call_refused, crate::proofs::PhaseCases::phase_refused, crate::proofs::PhaseCases::phase_went))]
 pub fn phase(
     program: &[u64],
     memory: &mut [u32],
@@ -65,24 +70,19 @@ pub fn phase(
         ≡ avm_phase program.now memory.old registers.old state.old
         latches.old mir.old phase.old request }
 {
-    let number = calls::test(memory.len(), registers.len());
-    if number != 0 {
-        return refuse(number);
+    if let Err(refusal) = calls::test(memory.len(), registers.len()) {
+        return refuse(refusal);
     }
     let lent = phase_state(calls::registers_in(registers), state, latches, *mir, *phase);
-    let called = phase_level::call::phase(program, memory, lent, request);
-    let end = called.end;
-    let microcycles = Microcycles { count: 0 };
-    let steps = Steps { count: 0 };
-    if !answers::done(end) {
-        return answer_of(end, microcycles, steps);
+    match phase_level::call::phase(program, memory, lent, request) {
+        Ok(after) => {
+            calls::registers_out(registers, after.registers);
+            *state = phase_words(after);
+            *latches = latch_words(after);
+            *mir = after.mir;
+            *phase = after.phase;
+            answer_of(Ok(()), Microcycles::NONE, Steps::NONE)
+        }
+        Err(refusal) => refuse(refusal),
     }
-    let after = called.state;
-    let file = after.registers;
-    calls::registers_out(registers, file);
-    *state = phase_words(after);
-    *latches = latch_words(after);
-    *mir = after.mir;
-    *phase = after.phase;
-    answer_of(end, microcycles, steps)
 }

@@ -22,8 +22,7 @@ const MOST_REQUEST: u8 = 3;
 fn tested(words: usize, program: &[u64], s: PhaseState, request: u8) -> Result<(), Refusal>
     ensures { result ≡ phase_test words program.now s request }
 {
-    let registers = s.registers;
-    machine_tested(words, registers[0], program)?;
+    machine_tested(words, s.registers[0], program)?;
     if !legal(s.mir) {
         return Err(Refusal::Microword(program.len()));
     }
@@ -37,8 +36,8 @@ fn tested(words: usize, program: &[u64], s: PhaseState, request: u8) -> Result<(
     Ok(())
 }
 
-// The phase that is next. The number is C's, and the source's clock counts so (pp. 114-118): an enum
-// would only turn it round and back.
+// The phase that is next. Its number stays a number: C lends it and gets it back, and the source's
+// clock is one (GetPhaseClock, pp. 114-118). An enum would be made of it and unmade around one match.
 #[tactic(auto, unfolding(phase_meaning::specs::Call::phase_done))]
 fn phase_done(program: &[u64], memory: &[u32], s: PhaseMachine, request: u8) -> PhaseMachine
     ensures { result ≡ phase_done program.now memory.now s request }

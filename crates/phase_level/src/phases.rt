@@ -29,11 +29,10 @@ pub fn one(program: &[u64], s: PhaseMachine, request: u8) -> PhaseMachine
 }
 
 // The latches that feed the ALU are loaded, and the acknowledge latch.
-#[tactic(auto, unfolding(phase_meaning::specs::Phases::phase_two), using(words::proofs::FieldBounds::dest_lt, words::proofs::FieldBounds::srca_lt, words::proofs::FieldBounds::srcb_lt))]
+#[tactic(auto, using(words::proofs::FieldBounds::dest_lt, words::proofs::FieldBounds::srca_lt, words::proofs::FieldBounds::srcb_lt), unfolding(phase_meaning::specs::Phases::phase_two))]
 pub fn two(s: PhaseMachine) -> PhaseMachine
     ensures { result ≡ phase_two s }
 {
-    let registers = s.registers;
     let word = Microword::from(s.mir);
     let Instruction {
         dest,
@@ -42,10 +41,10 @@ pub fn two(s: PhaseMachine) -> PhaseMachine
         imm,
         ..
     } = Instruction::from(s.ir);
-    let file_a = registers[srca as usize];
-    let file_b = registers[srcb as usize];
-    let file_d = registers[dest as usize];
-    let ssp = registers[1];
+    let file_a = s.registers[srca as usize];
+    let file_b = s.registers[srcb as usize];
+    let file_d = s.registers[dest as usize];
+    let ssp = s.registers[1];
     let psw = u32::from(s.psw);
     PhaseMachine {
         alatch: sources::a(word.srca, file_a, file_d, ssp, psw, s.pc),
@@ -95,7 +94,6 @@ pub fn store(s: PhaseMachine) -> Option<Store>
 pub fn four(memory: &[u32], s: PhaseMachine) -> PhaseMachine
     ensures { result ≡ phase_four memory.now s }
 {
-    let registers = s.registers;
     let PhaseMachine {
         psw,
         pc,
@@ -106,7 +104,6 @@ pub fn four(memory: &[u32], s: PhaseMachine) -> PhaseMachine
     } = s;
     let old = SystemRegisters { pc, ir, mar, mbr };
     let word = Microword::from(s.mir);
-    let trgt = word.trgt;
     let dest = Instruction::from(ir).dest;
     let a = choose(word.amux, mbr, s.alatch);
     let out = operate(word.alu, word.shft, word.csrc, a, s.blatch, psw.c);
@@ -114,7 +111,7 @@ pub fn four(memory: &[u32], s: PhaseMachine) -> PhaseMachine
     let next_psw = operation::psw(word, out, psw);
     let next = results::system(memory, word, dest, psw, result, old);
     PhaseMachine {
-        registers: results::registers(trgt, psw.sm, dest, registers, result),
+        registers: results::registers(word.trgt, psw.sm, dest, s.registers, result),
         psw: next_psw,
         pc: next.pc,
         ir: next.ir,

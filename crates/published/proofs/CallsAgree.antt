@@ -10,17 +10,20 @@ use mathlib.Core.Bool.{Bool, true, false, not, cond}
 use mathlib.Core.List.{List, [], ◌∷◌}
 use lib.ListN.{length}
 use mir.Val.{bool_byte as num}
-use borrow.Author.Tests.{eq-eqb, le-ltb}
+use borrow.Author.Tests.{eq-eqb}
 use Rattle.words.specs.Registers.{register}
+use Rattle.answers.specs.declared.Steps.{Steps}
+use Rattle.answers.specs.declared.Refusal.{Refusal}
 use Rattle.answers.specs.Ends.{End}
-use Rattle.std.specs.Prelude.{Ok, Err}
+use Rattle.std.specs.Prelude.{Result, Ok, Err}
+use Rattle.std.specs.Result.{result_and}
 use Rattle.answers.specs.Ends.{is_done}
 use Rattle.answers.specs.Places.{above, first_place}
 use Rattle.answers.specs.Tests.{lent_test}
 use Rattle.control_store.specs.Sequencer.{fetch_address}
 use Rattle.blocks.specs.Memory.{applied}
 use Rattle.phase_meaning.specs.Phases.{interrupt}
-use Rattle.control_store.specs.ControlStore.{machine_test}
+use Rattle.control_store.specs.ControlStore.{store_test, machine_test}
 use Rattle.micro_meaning.specs.declared.MicroMachine.{MicroMachine}
 use Rattle.micro_meaning.specs.Microcycle.{microcycle, micro_store}
 use Rattle.micro_meaning.specs.declared.MicroState.{MicroState}
@@ -29,12 +32,12 @@ use Rattle.micro_meaning.specs.Run.{RanOn, MicroCalled, at_fetch, bad_request, r
 use Rattle.control_store.proofs.MachineTest.{machine_refused}
 use Rattle.micro_meaning.proofs.RunTests.{Fine, lent_refused as micro_lent}
 use Rattle.micro_meaning.proofs.RunCalls.{refused as micro_call}
-use Rattle.macro_meaning.proofs.RunTests.{lent_refused as macro_lent}
-use Rattle.macro_meaning.proofs.RunCalls.{refused as macro_call}
+use Rattle.macro_meaning.proofs.RunTests.{lent_refused as macro_lent, nothing_refused}
+use Rattle.macro_meaning.proofs.RunCalls.{ran as macro_ran}
 use Rattle.micro_meaning.proofs.RunsInARow.{as_run}
 use Rattle.macro_meaning.specs.Machine.{macro_packed}
 use Rattle.macro_meaning.specs.Step.{Macro}
-use Rattle.macro_meaning.specs.Run.{MacroCalled, most_step_request, macro_test, macro_done, run as macro_run}
+use Rattle.macro_meaning.specs.Run.{MacroCalled, most_step_request, macro_tested_first, macro_done, run as macro_run}
 use Rattle.published.specs.Listing.{published}
 use Rattle.published.specs.Clocks.{macro_seen, shows, steps_of, heard}
 use Rattle.published.proofs.ReadBack.{passes}
@@ -59,6 +62,11 @@ all_lines (request ∷ rest) mem s =
     by_place true false e = ap suc e
     by_place false i e = e
 
+-- how a macro call ends
+abbrev pub end_of : Result Steps Refusal → End
+end_of (Ok steps) = Ok tt
+end_of (Err refusal) = Err refusal
+
 module _ (mem : List ℕ) (s : MicroState) (requests : List ℕ) where
   abbrev pub lent : End
   lent = lent_test (length mem) (register s.registers 0)
@@ -75,62 +83,65 @@ module _ (mem : List ℕ) (s : MicroState) (requests : List ℕ) where
   -- ---- refused alike
   pub micro_refuses : is_done lent ≡ false → micro.answer.end ≡ lent
   micro_refuses h =
-      let machine = machine_refused (length mem) (register s.registers 0) published refl refl (ap not h) in
-      let test = micro_lent (length mem) published s requests refl refl (ap (λ (e : End). not (is_done e)) machine ∙ ap not h) ∙ machine in
-      ap (λ (c : MicroCalled). c.answer.end) (micro_call published mem s requests refl refl (ap (λ (e : End). not (is_done e)) test ∙ ap not h)) ∙ test
+      let machine = machine_refused (length mem) (register s.registers 0) published h in
+      let test = micro_lent (length mem) published s requests (ap is_done machine ∙ h) ∙ machine in
+      ap (λ (c : MicroCalled). c.answer.end) (micro_call published mem s requests (ap is_done test ∙ h)) ∙ test
 
-  pub macro_refuses : is_done lent ≡ false → macro.answer.end ≡ lent
-  macro_refuses h =
-      let test = macro_lent (length mem) (macro_seen s) steps_heard refl refl (ap not h) in
-      ap (λ (c : MacroCalled). c.answer.end) (macro_call mem (macro_seen s) steps_heard refl refl (ap (λ (e : End). not (is_done e)) test ∙ ap not h)) ∙ test
+  pub macro_refuses : is_done lent ≡ false → end_of macro.answer ≡ lent
+  unfolding macro_run
+  macro_refuses h = rw (macro_lent (length mem) (macro_seen s) steps_heard h) (as_tested lent h _)
+    where
+      as_tested : (test : End) → is_done test ≡ false → (rest : MacroCalled)
+          → end_of (macro_tested_first test (macro_seen s) mem rest).answer ≡ test
+      as_tested (Ok _) h rest = cc
+      as_tested (Err refusal) h rest = refl
 
   -- ---- done alike
   module _ (good : is_done lent ≡ true) where
-    macro_tested : macro_test (length mem) (macro_seen s) steps_heard ≡ Ok tt
-    unfolding macro_test
-    macro_tested = rw (good, all_lines requests mem (micro_unpacked s), le-ltb (length steps_heard) (length steps_heard) (le_refl (length steps_heard)))
-
     macro_is : macro ≡ macro_done (length steps_heard) (steps_of (shows mem (micro_unpacked s)) steps_heard)
-    unfolding macro_run
-    macro_is = rw macro_tested
+    macro_is =
+        macro_ran mem (macro_seen s) steps_heard
+        (nothing_refused (length mem) (macro_seen s) steps_heard good (sym (all_lines requests mem (micro_unpacked s))) (le_refl (length steps_heard)))
 
     module _ (good_requests : first_place bad_request requests ≡ length requests) (at_first : s.mpc ≡ fetch_address) where
       tests : Fine (length mem) published s requests
       unfolding machine_test
       tests =
           record {
-            lent = rw (good, passes);
+            lent = store_tested lent good;
             inside = subst (λ (k : ℕ). k < length published) (sym at_first) (subst (λ (n : ℕ). 0 < n) (sym sixty_four) (omega arith));
             requests_good = good_requests;
           }
+        where
+          store_tested : (test : End) → is_done test ≡ true → is_done (result_and test (store_test published)) ≡ true
+          store_tested (Ok _) h = rw passes
+          store_tested (Err refusal) h = cc
 
       abbrev whole : RanOn
       whole = run_on published mem (micro_unpacked s) 0 0 requests
 
-      micro_is : micro ≡ record { answer = record { end = Ok tt; microcycles = whole.ran.microcycles; steps = whole.ran.steps; state = micro_packed whole.ran.machine }; memory = whole.memory }
+      micro_is : micro ≡ record { answer = record { end = Ok tt; microcycles = whole.ran.microcycles; steps = whole.ran.steps; state = micro_packed whole.ran.state }; memory = whole.memory }
       micro_is = as_run published mem s requests tests ∙ rw (never_refused requests mem (micro_unpacked s) 0 0).ends
 
       pub micro_done : micro.answer.end ≡ Ok tt
       micro_done = ap (λ (c : MicroCalled). c.answer.end) micro_is
 
       pub record Agree : Type 0 where
-        pub done : macro.answer.end ≡ Ok tt
-        pub steps : macro.answer.steps ≡ micro.answer.steps
-        pub state : macro.answer.state ≡ macro_seen micro.answer.state
+        pub done : macro.answer ≡ Ok micro.answer.steps
+        pub state : macro.state ≡ macro_seen micro.answer.state
         pub memory : macro.memory ≡ micro.memory
 
       pub calls_agree : micro.answer.state.mpc ≡ fetch_address → Agree
       calls_agree back =
           let there = returns_are_steps mem (micro_unpacked s) (eq-eqb s.mpc fetch_address at_first) requests in
-          let at_end : at_fetch whole.ran.machine ≡ true =
-          eq-eqb whole.ran.machine.mpc fetch_address (sym (ap (λ (c : MicroCalled). c.answer.state.mpc) micro_is) ∙ back) in
+          let at_end : at_fetch whole.ran.state ≡ true =
+          eq-eqb whole.ran.state.mpc fetch_address (sym (ap (λ (c : MicroCalled). c.answer.state.mpc) micro_is) ∙ back) in
           let shown = there.each_return at_end in
           let count : length steps_heard ≡ whole.ran.steps.count = omega (arith, there.returns, ap (λ (b : Bool). num (not b)) at_end) in
           record {
-            done = ap (λ (c : MacroCalled). c.answer.end) macro_is;
-            steps = ap (λ (c : MacroCalled). c.answer.steps) macro_is ∙ ap (λ (n : ℕ). record { count = n }) count ∙ sym (ap (λ (c : MicroCalled). c.answer.steps) micro_is);
+            done = ap (λ (c : MacroCalled). c.answer) macro_is ∙ ap (λ (n : ℕ). Ok (record { count = n })) count ∙ sym (ap (λ (c : MicroCalled). Ok c.answer.steps) micro_is);
             state =
-                ap (λ (c : MacroCalled). c.answer.state) macro_is ∙ ap (λ (x : Macro). macro_packed x.machine) (sym shown)
+                ap (λ (c : MacroCalled). c.state) macro_is ∙ ap (λ (x : Macro). macro_packed x.machine) (sym shown)
                 ∙ sym (ap (λ (c : MicroCalled). macro_seen c.answer.state) micro_is);
             memory = ap (λ (c : MacroCalled). c.memory) macro_is ∙ ap (λ (x : Macro). x.memory) (sym shown) ∙ sym (ap (λ (c : MicroCalled). c.memory) micro_is);
           }

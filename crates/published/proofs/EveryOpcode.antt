@@ -31,7 +31,7 @@ use Rattle.micro_meaning.specs.Microcycle.{microcycle, micro_store, next_address
 use Rattle.micro_meaning.specs.Run.{at_fetch}
 use Rattle.macro_meaning.specs.Effects.{inc}
 use Rattle.macro_meaning.specs.Instructions.{jmp, call, interrupted, rti, rtn, gpsw, ppsw, ld, st, shift, arithmetic, logic, noop, computation, effect, eint_key}
-use Rattle.macro_meaning.specs.declared.MacroMachine.{MacroMachine}
+use Rattle.macro_meaning.specs.Machine.{MacroMachine}
 use Rattle.macro_meaning.specs.Step.{Macro, operands, selected, performed, step}
 use Rattle.published.specs.Assembler.{packed}
 use Rattle.published.specs.Listing.{eint_u1_address, listing, published}

@@ -11,7 +11,7 @@ use mathlib.Core.List.{List, [], ◌∷◌}
 use lib.Dec.{eqb}
 use lib.ListN.{length}
 use mir.Val.{bool_byte as num}
-use Rattle.std.specs.Prelude.{Ok, Err}
+use Rattle.std.specs.Prelude.{Ok}
 use Rattle.phase_meaning.specs.Phases.{interrupt}
 use Rattle.micro_meaning.specs.declared.MicroMachine.{MicroMachine}
 use Rattle.micro_meaning.specs.Run.{RanOn, at_fetch, run_on}
@@ -35,8 +35,8 @@ within_7 k = by_key (eqb k eint_key) (eqb k 1 || eqb k 2) (eqb k 3 || eqb k 6 ||
 
 -- ---- a run that a return is due in
 record Arrived (m : Macro) (returns : ℕ) (r : RanOn) : Type 0 where
-  back : at_fetch r.ran.machine ≡ true
-  shown : shows r.memory r.ran.machine ≡ m
+  back : at_fetch r.ran.state ≡ true
+  shown : shows r.memory r.ran.state ≡ m
   steps : r.ran.steps.count ≡ returns + 1
 
 arrives : (c : ℕ) (mem : List ℕ) (s : MicroMachine) (m : Macro) → Due c mem s m → (requests : List ℕ) → length requests ≡ c → (done returns : ℕ)
@@ -50,8 +50,8 @@ arrives (suc c) mem s m d (request ∷ rest) h done returns =
     let same = on mem s done (returns + num (at_fetch s)) request rest in
     let none : num (at_fetch s) ≡ 0 = ap num d.0 in
     record {
-      back = ap (λ (r : RanOn). at_fetch r.ran.machine) same ∙ there.back;
-      shown = ap (λ (r : RanOn). shows r.memory r.ran.machine) same ∙ there.shown;
+      back = ap (λ (r : RanOn). at_fetch r.ran.state) same ∙ there.back;
+      shown = ap (λ (r : RanOn). shows r.memory r.ran.state) same ∙ there.shown;
       steps = ap (λ (r : RanOn). r.ran.steps.count) same ∙ there.steps ∙ omega (arith, none);
     }
 
@@ -75,8 +75,8 @@ module _ (mem : List ℕ) (s : MicroMachine) (at_first : at_fetch s ≡ true) (r
     pub microcycles : whole.ran.microcycles.count ≡ cycles (key mem s request)
     pub at_most_7 : whole.ran.microcycles.count ≤ 7
     pub one_return : whole.ran.steps.count ≡ 1
-    pub at_its_end : at_fetch whole.ran.machine ≡ true
-    pub one_step : shows whole.memory whole.ran.machine ≡ step mem (macro_machine s) (interrupt request)
+    pub at_its_end : at_fetch whole.ran.state ≡ true
+    pub one_step : shows whole.memory whole.ran.state ≡ step mem (macro_machine s) (interrupt request)
 
   behind : AfterFetch mem s request
   behind = after_fetch mem s at_first request
@@ -91,8 +91,8 @@ module _ (mem : List ℕ) (s : MicroMachine) (at_first : at_fetch s ≡ true) (r
         microcycles = refused.microcycles ∙ omega (arith, h);
         at_most_7 = omega (arith, refused.microcycles, h, within_7 (key mem s request));
         one_return = ap (λ (r : RanOn). r.ran.steps.count) same ∙ there.steps;
-        at_its_end = ap (λ (r : RanOn). at_fetch r.ran.machine) same ∙ there.back;
-        one_step = ap (λ (r : RanOn). shows r.memory r.ran.machine) same ∙ there.shown;
+        at_its_end = ap (λ (r : RanOn). at_fetch r.ran.state) same ∙ there.back;
+        one_step = ap (λ (r : RanOn). shows r.memory r.ran.state) same ∙ there.shown;
       }
 
   pub no_return_before : suc (length rest) < cycles (key mem s request) → whole.ran.steps.count ≡ 0
@@ -103,7 +103,7 @@ module _ (mem : List ℕ) (s : MicroMachine) (at_first : at_fetch s ≡ true) (r
 -- What is requested between two fetches does not matter: over other requests after the first, the return shows the same.
 pub between_fetches_nothing_is_heard : (mem : List ℕ) (s : MicroMachine) (at_first : at_fetch s ≡ true) (request : ℕ) (rest other : List ℕ)
     → suc (length rest) ≡ cycles (key mem s request) → suc (length other) ≡ cycles (key mem s request)
-    → (let r = whole mem s at_first request rest in shows r.memory r.ran.machine)
-    ≡ (let r = whole mem s at_first request other in shows r.memory r.ran.machine)
+    → (let r = whole mem s at_first request rest in shows r.memory r.ran.state)
+    ≡ (let r = whole mem s at_first request other in shows r.memory r.ran.state)
 between_fetches_nothing_is_heard mem s at_first request rest other h k =
     (one_return_is_one_step mem s at_first request rest h).one_step ∙ sym (one_return_is_one_step mem s at_first request other k).one_step

@@ -12,6 +12,7 @@ use mir.Val.{bool_byte as num}
 use borrow.Author.Tests.{lt-leb}
 use Rattle.words.proofs.FieldBounds.{field_lt}
 use Rattle.control_store.proofs.SixBits.{next_lt}
+use Rattle.std.specs.Prelude.{Option}
 use Rattle.blocks.specs.declared.memory.Store.{Store}
 use Rattle.blocks.specs.Memory.{applied}
 use Rattle.datapath.specs.Results.{new_mpc}
@@ -74,7 +75,7 @@ module _ (mem : List ℕ) (p : PhaseMachine) (begins : p.phase ≡ 0) (request :
 
 -- ---- phases are microcycles
 record Alike (x : Phased) (r : RanOn) : Type 0 where
-  machine : micro_seen x.machine ≡ r.ran.machine
+  machine : micro_seen x.machine ≡ r.ran.state
   memory : x.memory ≡ r.memory
 
 alike : (requests mem : List ℕ) (p : PhaseMachine) → p.phase ≡ 0 → (done returns : ℕ)
@@ -90,7 +91,7 @@ alike (request ∷ rest) mem p begins done returns =
     let phased_on = ap (λ (x : Phased). phases published x rest) (four mem p begins request) in
     let run_so = ap (λ s. run_on published mem' s (done + 1) (returns + num (at_fetch next)) rest) same ∙ sym (on mem (micro_seen p) done returns request rest) in
     record {
-      machine = ap (λ (x : Phased). micro_seen x.machine) phased_on ∙ there.machine ∙ ap (λ (r : RanOn). r.ran.machine) run_so;
+      machine = ap (λ (x : Phased). micro_seen x.machine) phased_on ∙ there.machine ∙ ap (λ (r : RanOn). r.ran.state) run_so;
       memory = ap (λ (x : Phased). x.memory) phased_on ∙ there.memory ∙ ap (λ (r : RanOn). r.memory) run_so;
     }
 
@@ -104,7 +105,7 @@ module _ (mem : List ℕ) (p : PhaseMachine) (begins : p.phase ≡ 0) (at_first 
 
   pub record PhasesToSteps : Type 0 where
     pub no_phase_refused : (q : PhaseMachine) → leaves (length published) q ≡ false
-    pub same_machine : micro_seen ended.machine ≡ whole.ran.machine
+    pub same_machine : micro_seen ended.machine ≡ whole.ran.state
     pub same_memory : ended.memory ≡ whole.memory
     pub run : Steps mem (micro_seen p) at_first requests
     pub steps : at_fetch (micro_seen ended.machine) ≡ true
@@ -114,7 +115,7 @@ module _ (mem : List ℕ) (p : PhaseMachine) (begins : p.phase ≡ 0) (at_first 
   phases_make_steps =
       let same = alike requests mem p begins 0 0 in
       let run = returns_are_steps mem (micro_seen p) at_first requests in
-      let shown : shows ended.memory (micro_seen ended.machine) ≡ shows whole.memory whole.ran.machine =
+      let shown : shows ended.memory (micro_seen ended.machine) ≡ shows whole.memory whole.ran.state =
       ap (λ (m : List ℕ). shows m (micro_seen ended.machine)) same.memory ∙ ap (shows whole.memory) same.machine in
       record {
         no_phase_refused = no_phase_leaves;

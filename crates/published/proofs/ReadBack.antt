@@ -8,7 +8,7 @@ use mathlib.Core.List.{List, map}
 use lib.ListN.{length, get_or}
 use lib.Seq.{ext_get_or}
 use Rattle.words.specs.Words.{field, bit}
-use Rattle.std.specs.Prelude.{Ok, Err}
+use Rattle.std.specs.Prelude.{Ok}
 use Rattle.answers.specs.Places.{first_place}
 use Rattle.control_store.specs.Microword.{fields}
 use Rattle.control_store.specs.Codes.{legal_microword}

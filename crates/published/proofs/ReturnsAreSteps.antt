@@ -10,7 +10,7 @@ use mathlib.Core.Bool.{Bool, true, false, not, false≢true}
 use mathlib.Core.List.{List, [], ◌∷◌}
 use lib.ListN.{length}
 use mir.Val.{bool_byte as num}
-use Rattle.std.specs.Prelude.{Ok, Err}
+use Rattle.std.specs.Prelude.{Ok}
 use Rattle.blocks.specs.Memory.{applied}
 use Rattle.phase_meaning.specs.Phases.{interrupt}
 use Rattle.micro_meaning.specs.declared.MicroMachine.{MicroMachine}
@@ -52,8 +52,8 @@ module _ (mem : List ℕ) (s : MicroMachine) (request : ℕ) (rest : List ℕ) w
 
 -- where a return is due that shows m, over the requests that follow
 pub record Told (mem : List ℕ) (s : MicroMachine) (m : Macro) (returns : ℕ) (requests : List ℕ) (r : RanOn) : Type 0 where
-  pub shown : at_fetch r.ran.machine ≡ true → shows r.memory r.ran.machine ≡ steps_of m (heard published mem s requests)
-  pub counts : r.ran.steps.count + num (not (at_fetch r.ran.machine)) ≡ returns + suc (length (heard published mem s requests))
+  pub shown : at_fetch r.ran.state ≡ true → shows r.memory r.ran.state ≡ steps_of m (heard published mem s requests)
+  pub counts : r.ran.steps.count + num (not (at_fetch r.ran.state)) ≡ returns + suc (length (heard published mem s requests))
 
 told_by : {mem : List ℕ} {s : MicroMachine} {m : Macro} {returns : ℕ} {requests : List ℕ} {r r' : RanOn} → r ≡ r'
     → Told mem s m returns requests r' → Told mem s m returns requests r
@@ -97,9 +97,9 @@ module _ (mem : List ℕ) (s : MicroMachine) (at_first : at_fetch s ≡ true) (r
   pub record Steps : Type 0 where
     pub not_refused : whole.ran.end ≡ Ok tt
     pub microcycles : whole.ran.microcycles.count ≡ length requests
-    pub each_return : at_fetch whole.ran.machine ≡ true
-        → shows whole.memory whole.ran.machine ≡ steps_of (shows mem s) (heard published mem s requests)
-    pub returns : whole.ran.steps.count + num (not (at_fetch whole.ran.machine)) ≡ length (heard published mem s requests)
+    pub each_return : at_fetch whole.ran.state ≡ true
+        → shows whole.memory whole.ran.state ≡ steps_of (shows mem s) (heard published mem s requests)
+    pub returns : whole.ran.steps.count + num (not (at_fetch whole.ran.state)) ≡ length (heard published mem s requests)
 
   -- the same run, with a return counted that was there before
   abbrev after_one : RanOn

@@ -27,7 +27,7 @@ comes [] (suc c) mem s m d done returns j h = absurd (omega (arith, h))
 comes (request ∷ rest) zero mem s m d done returns zero h =
     let r = from_here mem s done returns (request ∷ rest) in
     let all = told (request ∷ rest) zero mem s m d done returns in
-    omega (arith, all.counts, ap length (hears mem s request rest d.0), num_le (not (at_fetch r.ran.machine)))
+    omega (arith, all.counts, ap length (hears mem s request rest d.0), num_le (not (at_fetch r.ran.state)))
 comes (request ∷ rest) zero mem s m d done returns (suc j) h =
     let behind = after_fetch mem s d.0 request in
     let one : num (at_fetch s) ≡ 1 = ap num d.0 in

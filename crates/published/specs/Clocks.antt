@@ -11,8 +11,7 @@ use Rattle.micro_meaning.specs.Microcycle.{microcycle, micro_store}
 use Rattle.micro_meaning.specs.declared.MicroState.{MicroState}
 use Rattle.micro_meaning.specs.Run.{at_fetch}
 use Rattle.macro_meaning.specs.Instructions.{eint_key}
-use Rattle.macro_meaning.specs.declared.MacroState.{MacroState}
-use Rattle.macro_meaning.specs.declared.MacroMachine.{MacroMachine}
+use Rattle.macro_meaning.specs.Machine.{MacroState, MacroMachine}
 use Rattle.macro_meaning.specs.Step.{Macro, selected}
 use Rattle.macro_meaning.specs.Run.{steps}
 

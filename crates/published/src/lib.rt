@@ -73,9 +73,9 @@ const PUBLISHED: [u64; 64] = [
 ];
 
 // The word at an address modulo 64.
+#[tactic(auto, unfolding(control_store::specs::ControlStore::word_at, crate::specs::Listing::published, crate::specs::Listing::listing, crate::specs::Assembler::packed))]
 pub fn word(address: u64) -> u64
     ensures { result ≡ word_at published (address % 64) }
 {
-    let at = (address % 64) as usize;
-    PUBLISHED[at]
+    PUBLISHED[(address % 64) as usize]
 }

@@ -4,6 +4,13 @@ ghost use Rattle.words.specs.Shifter.{shifter};
 
 use crate::predicates::negative;
 
+// SHFT (table 5.14, p. 120); every other code leaves the word as it is.
+pub const LEFT: u32 = 0;
+
+pub const RIGHT: u32 = 1;
+
+pub const ARITHMETIC_RIGHT: u32 = 2;
+
 #[derive(Clone, Copy)]
 pub struct ShifterOutput {
     pub value: u32,
@@ -17,15 +24,15 @@ pub fn shift(code: u32, w: u32) -> ShifterOutput
     let high = negative(w);
     let low = w % 2 == 1;
     match code {
-        0 => ShifterOutput {
+        LEFT => ShifterOutput {
             value: w % 0x8000_0000 * 2,
             carry: high,
         },
-        1 => ShifterOutput {
+        RIGHT => ShifterOutput {
             value: w / 2,
             carry: low,
         },
-        2 => ShifterOutput {
+        ARITHMETIC_RIGHT => ShifterOutput {
             value: w / 2 + (high as u32) * 0x8000_0000,
             carry: low,
         },
