@@ -12,6 +12,11 @@ pub struct Heading {
     pub kind: u16,
 }
 
+impl Heading {
+    pub const DATA: u16 = 0;
+    pub const END: u16 = 1;
+}
+
 // A record, as a line says it. The sum is that of all its bytes modulo 256, the checksum included.
 #[derive(Clone, Copy)]
 pub struct Record {

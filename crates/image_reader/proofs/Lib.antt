@@ -1,5 +1,4 @@
 -- Laws over the definitions, a file each.
 pub mod TestCases
 pub mod LineTurns
-pub mod StoredLines
 pub mod ReadCases

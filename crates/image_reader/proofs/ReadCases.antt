@@ -1,17 +1,17 @@
 -- What the reader answers and what it leaves in memory, case by case.
-use Prim.Native.Nat.{ℕ, ◌<◌, ◌≤◌}
-use mathlib.Core.Path.{◌≡◌, refl, sym, ◌∙◌}
+use Prim.Native.Nat.{ℕ, ◌<◌}
+use mathlib.Core.Path.{◌≡◌, refl, sym}
 use mathlib.Core.Bool.{Bool, true, false, not}
 use mathlib.Core.List.{List}
 use lib.ListN.{length}
-use borrow.Author.Tests.{le-leb, lt-leb}
+use borrow.Author.Tests.{lt-leb}
 use Rattle.words.specs.Lengths.{legal_length}
 use Rattle.words.proofs.Cases.{turned, upright}
 use Rattle.answers.specs.Ends.{End}
-use Rattle.std.specs.Prelude.{Ok, Err}
+use Rattle.std.specs.Prelude.{Err}
 use Rattle.answers.specs.declared.Refusal.TheVariants.{MemoryLength, TextLength}
 use Rattle.answers.specs.Ends.{is_done}
-use Rattle.image_meaning.specs.Reading.{most_text, judged, loaded, read_answer, memory_after}
+use Rattle.image_meaning.specs.Reading.{most_text, read_answer, memory_after}
 
 module _ (memory text : List ℕ) where
   abbrev pub AsMeant : End → List ℕ → Type 0
@@ -30,16 +30,3 @@ module _ (memory text : List ℕ) where
       pub text_refused : most_text < length text → AsMeant (Err TextLength) memory
       unfolding read_answer
       text_refused long = untouched (rw (← l, upright legal h, lt-leb (length text) most_text long)) refl
-
-      module _ (short : length text ≤ most_text) {end : End} (e : end ≡ judged (length memory) text) {fine : Bool}
-          (f : fine ≡ is_done end) where
-        lines_decide : read_answer memory text ≡ end
-        unfolding read_answer
-        lines_decide = rw (← l, upright legal h, le-leb (length text) most_text short) (sym e)
-
-        pub line_refused : not fine ≡ true → AsMeant end memory
-        line_refused n = untouched lines_decide (sym f ∙ turned fine n)
-
-        pub all_fine : not fine ≡ false → {after : List ℕ} → after ≡ loaded memory text → AsMeant end after
-        unfolding memory_after
-        all_fine n s = (sym lines_decide, rw (lines_decide, ← f, upright fine n) s)

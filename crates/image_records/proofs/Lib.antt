@@ -1,7 +1,5 @@
 -- Laws over the definitions, a file each.
-pub mod DigitValues
-pub mod DigitPairs
+pub mod FirstLine
 pub mod LineEnds
 pub mod Totals
-pub mod FoundRecords
-pub mod FirstLine
+pub mod WordsAt

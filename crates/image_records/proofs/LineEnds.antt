@@ -1,55 +1,54 @@
--- Where a line ends: the turns of a loop that looks for its LF, and what stands behind a line's last digit, case by case.
-use Prim.Native.Nat.{ℕ, suc, ◌+◌, ◌-◌, ◌<◌, ◌≤◌}
-use native.Mathlib.Nat.{add-zero}
-use native.Mathlib.Numerals.{add-one}
+-- The first line ends behind the first LF, or with the text, told by the library's search for it.
+use Prim.Native.Nat.{ℕ, suc, ◌+◌}
+use Prim.Native.Nat.compare
+use native.Mathlib.Numerals.{one-add}
 use native.Mathlib.Omega.{arith}
-use mathlib.Core.Path.{◌≡◌, refl, ap, ◌∙◌}
-use mathlib.Core.Bool.{true, false, ◌&&◌}
+use mathlib.Core.Path.{◌≡◌, refl}
+use mathlib.Core.Bool.{Bool, true, false, not, cond}
 use mathlib.Core.List.{List, [], ◌∷◌}
-use lib.Dec.{eqb}
-use lib.ListN.{length, get_or, drop, length-drop, drop_of_length-le}
-use lib.Seq.{drop-cons}
-use borrow.Author.Tests.{eq-eqb, ne_eqb}
-use Rattle.image_meaning.specs.Lines.{lf, cr, is_end}
+use lib.Dec.{eqb, ltb}
+use lib.ListN.{length}
+use borrow.Author.Tests.{lt-ltb}
+use Rattle.std.specs.Prelude.{Some, None}
+use Rattle.std.specs.List.{position, position_or_len}
+use Rattle.image_meaning.specs.Lines.{lf}
 use Rattle.image_records.specs.Totals.{line_length}
 
--- ---- the LF
+abbrev is_lf : ℕ → Bool
+is_lf c = eqb c lf
 
-module _ (text : List ℕ) (at : ℕ) where
-  pub found : at < length text → get_or text at 0 ≡ lf → at + line_length (drop at text) ≡ at + 1
-  found h e = rw (drop-cons text at 0 h, eq-eqb (get_or text at 0) lf e)
+-- the place that the search finds, or the length
+abbrev place : List ℕ → ℕ
+place t = position_or_len is_lf t
 
-  pub passed : at < length text → (get_or text at 0 ≡ lf → ⊥) → at + line_length (drop at text) ≡ at + 1 + line_length (drop (at + 1) text)
-  passed h e = rw (drop-cons text at 0 h, ne_eqb (get_or text at 0) lf e, add-one at) (omega arith)
+ends : (t : List ℕ) → cond (ltb (place t) (length t)) (place t + 1) (length t) ≡ line_length t
+ends [] = refl
+ends (c ∷ t) = by_end (eqb c lf) (ends t)
+  where
+    by_end : (b : Bool) → cond (ltb (place t) (length t)) (place t + 1) (length t) ≡ line_length t →
+        cond (ltb (cond (not b) (1 + place t) 0) (suc (length t))) (cond (not b) (1 + place t) 0 + 1) (suc (length t))
+        ≡ cond b 1 (suc (line_length t))
+    by_end true e = rw (lt-ltb 0 (suc (length t)) (omega arith))
+    by_end false e = rw (one-add, compare.suc-suc) (one_more (ltb (place t) (length t)) e)
+      where
+        one_more : (l : Bool) → cond l (place t + 1) (length t) ≡ line_length t →
+            cond l (suc (place t) + 1) (suc (length t)) ≡ suc (line_length t)
+        one_more true e = omega arith
+        one_more false e = omega arith
 
-  pub text_at_its_end : length text ≤ at → at + line_length (drop at text) ≡ at
-  text_at_its_end h = rw (drop_of_length-le text {i = at} h, add-zero)
+module _ (t : List ℕ) where
+  pub behind_the_lf : {at : ℕ} → position is_lf t ≡ Some at → at + 1 ≡ line_length t
+  behind_the_lf {at} e = by_place (ltb (place t) (length t)) (ends t) e
+    where
+      by_place : (b : Bool) → cond b (place t + 1) (length t) ≡ line_length t → cond b (Some (place t)) None ≡ Some at →
+          at + 1 ≡ line_length t
+      by_place true e f = cc
+      by_place false e f = absurd cc
 
--- ---- behind the last digit
-
-too_many : (t : List ℕ) → 3 ≤ length t → is_end t ≡ false
-too_many [] h = absurd (omega arith)
-too_many (a ∷ []) h = absurd (omega arith)
-too_many (a ∷ b ∷ []) h = absurd (omega arith)
-too_many (a ∷ b ∷ c ∷ t) h = refl
-
-module _ (line : List ℕ) (from : ℕ) where
-  pub nothing_behind : length line ≤ from → is_end (drop from line) ≡ true
-  nothing_behind h = ap is_end (drop_of_length-le line {i = from} h)
-
-  pub one_behind : length line - from ≡ 1 → is_end (drop from line) ≡ eqb (get_or line from 0) lf
-  one_behind h =
-      ap is_end (drop-cons line from 0 (omega arith))
-      ∙ ap (λ (t : List ℕ). is_end (get_or line from 0 ∷ t)) (drop_of_length-le line {i = suc from} (omega arith))
-
-  pub two_behind : length line - from ≡ 2 → is_end (drop from line) ≡ eqb (get_or line from 0) cr && eqb (get_or line (from + 1) 0) lf
-  two_behind h =
-      ap is_end (drop-cons line from 0 (omega arith))
-      ∙ ap (λ (t : List ℕ). is_end (get_or line from 0 ∷ t))
-      (drop-cons line (suc from) 0 (omega arith)
-      ∙ ap (λ (t : List ℕ). get_or line (suc from) 0 ∷ t) (drop_of_length-le line {i = suc (suc from)} (omega arith)))
-      ∙ ap (λ (n : ℕ). eqb (get_or line from 0) cr && eqb (get_or line n 0) lf) (omega arith)
-
-  pub more_behind : (length line ≤ from → ⊥) → (length line - from ≡ 1 → ⊥) → (length line - from ≡ 2 → ⊥) → is_end
-      (drop from line) ≡ false
-  more_behind a b c = too_many (drop from line) (omega (arith, length-drop from line))
+  pub at_the_end : position is_lf t ≡ None → length t ≡ line_length t
+  at_the_end e = by_place (ltb (place t) (length t)) (ends t) e
+    where
+      by_place : (b : Bool) → cond b (place t + 1) (length t) ≡ line_length t → cond b (Some (place t)) None ≡ None →
+          length t ≡ line_length t
+      by_place true e f = absurd cc
+      by_place false e f = e

@@ -1,13 +1,11 @@
 -- How a line's sum and a line's length are found, in the order in which the code meets the bytes. Assumes nothing.
-use Rattle.std.specs.Prelude.{ℕ, suc, ◌+◌, ◌%◌, cond, List, [], ◌∷◌, eqb}
-use Rattle.image_records.specs.declared.Total.{Total}
-use Rattle.image_records.specs.declared.Total.TheVariants.{Sum, NoByte}
+use Rattle.std.specs.Prelude.{ℕ, suc, ◌%◌, cond, List, [], ◌∷◌, eqb, Option, Some, None}
 use Rattle.image_meaning.specs.Digits.{all_bytes, sum_of}
 use Rattle.image_meaning.specs.Lines.{lf}
 
--- the sum of bytes, added to what was summed before
-unfoldable pub total_of : ℕ → List ℕ → Total
-total_of sum bytes = cond (all_bytes bytes) (Sum ((sum + sum_of bytes) % 256)) NoByte
+-- the sum of bytes modulo 256, where all are bytes
+unfoldable pub total_of : List ℕ → Option ℕ
+total_of bytes = cond (all_bytes bytes) (Some (sum_of bytes % 256)) None
 
 -- the bytes of the first line, its end among them
 abbrev pub line_length : List ℕ → ℕ

@@ -1,61 +1,55 @@
 // The pieces of a text: a digit, a byte, a word, the end of a line, and what a line says.
 #![tactic(auto)]
 
-ghost use Rattle.std.specs.Prelude.{◌≡◌, ◌+◌, cond, drop};
+ghost use Rattle.std.specs.Prelude.{◌≡◌, ◌+◌, ◌==◌, cond, drop};
+ghost use Rattle.std.specs.List.{position};
+ghost use Rattle.std.specs.Iterator.{YieldsFirstRef, item_count};
 ghost use Rattle.image_meaning.specs.Digits.{digit_value, byte_of, bytes_of, word_of};
-ghost use Rattle.image_meaning.specs.Lines.{is_end};
+ghost use Rattle.image_meaning.specs.Lines.{lf, is_end, lines_of};
 ghost use Rattle.image_meaning.specs.Records.{record_of, heading_of};
 ghost use Rattle.image_records.specs.Totals.{total_of, line_length};
 
-use image_meaning::{Heading, Line};
-
-// Bytes summed up modulo 256, or one of them was no byte.
-#[derive(Clone, Copy)]
-pub enum Total {
-    Sum(u8),
-    NoByte,
-}
+use image_meaning::{Heading, Record};
 
 // One of two numbers that are both at hand, so that the compiler needs no branch: digits and letters
 // come in no order that a processor could foresee.
-fn either(first: bool, a: u16, b: u16) -> u16
+fn either(first: bool, a: u8, b: u8) -> u8
     ensures { result ≡ cond first a b }
 {
     if first { a } else { b }
 }
 
-// What a character counts as a hex digit; 16, which no digit does, where it is none.
-fn value(c: u8) -> u16
+// What a character counts as a hex digit; 16, which no digit does, where it is none. The definitions say
+// 16 too, and a number needs no branch.
+#[tactic(auto, unfolding(image_meaning::specs::Digits::digit_value))]
+fn value(c: u8) -> u8
     ensures { result ≡ digit_value c }
 {
-    let code = c as u16 + 256;
-    let lower = either((97 <= c) & (c <= 102), (code - 87) % 256, 16);
-    let upper = either((65 <= c) & (c <= 70), (code - 55) % 256, lower);
-    either((48 <= c) & (c <= 57), (code - 48) % 256, upper)
+    let lower = either((b'a' <= c) & (c <= b'f'), c.wrapping_sub(87), 16);
+    let upper = either((b'A' <= c) & (c <= b'F'), c.wrapping_sub(55), lower);
+    either((b'0' <= c) & (c <= b'9'), c.wrapping_sub(48), upper)
 }
 
-// The byte of two digits at `at`; 256 where there is none.
+// The byte of two digits at `at`; 256 where there is none. The definitions say 256 too, so that every line
+// has a heading, of record form or not.
+#[tactic(auto, unfolding(image_meaning::specs::Digits::paired))]
 fn byte(text: &[u8], at: usize) -> u16
     ensures { result ≡ byte_of (drop at text.now) }
 {
-    if text.len() < 2 {
+    let Some([high, low, ..]) = text.get(at..) else {
         return 256;
+    };
+    let high = value(*high) as u16;
+    let low = value(*low) as u16;
+    if high < 16 && low < 16 {
+        16 * high + low
+    } else {
+        256
     }
-    if text.len() - 2 < at {
-        return 256;
-    }
-    let high = value(text[at]);
-    let low = value(text[at + 1]);
-    if 15 < high {
-        return 256;
-    }
-    if 15 < low {
-        return 256;
-    }
-    16 * high + low
 }
 
 // The word of eight digits at `at`, the most significant byte first.
+#[tactic(auto, using(crate::proofs::WordsAt::word_at), unfolding(image_meaning::specs::Digits::word_from))]
 pub fn word(text: &[u8], at: u32) -> u32
     ensures { result ≡ word_of (drop at text.now) }
 {
@@ -67,96 +61,105 @@ pub fn word(text: &[u8], at: u32) -> u32
     ((16777216 * a + 65536 * b + 256 * c + d) % 4294967296) as u32
 }
 
-// The bytes of a record, from the count to the checksum, summed up.
-fn sum_up(line: &[u8], count: u16) -> Total
-    ensures { result ≡ total_of 0 (bytes_of (count + 5) (drop 1 line.now)) }
+// The bytes of a record, from the count to the checksum, summed up modulo 256, where all are bytes.
+fn sum_up(line: &[u8], count: u16) -> Option<u8>
+    ensures { result ≡ total_of (bytes_of (count + 5) (drop 1 line.now)) }
 {
-    let mut sum: u16 = 0;
-    let mut at: usize = 1;
-    let mut left = count as usize + 5;
-    while 0 < left {
-        let b = byte(line, at);
+    let mut sum: u8 = 0;
+    for k in 0..count as usize + 5 {
+        let b = byte(line, 1 + 2 * k);
         if 255 < b {
-            return Total::NoByte;
+            return None;
         }
-        sum = (sum + b) % 256;
-        at += 2;
-        left -= 1;
+        sum = sum.wrapping_add(b as u8);
     }
-    Total::Sum(sum as u8)
+    Some(sum)
+}
+
+// Whether nothing but a line's end stands there.
+fn is_end(rest: &[u8]) -> bool
+    ensures { result ≡ is_end rest.now }
+{
+    matches!(rest, [] | [b'\n'] | [b'\r', b'\n'])
 }
 
 // Whether nothing but a line's end stands behind `from`.
 fn ended(line: &[u8], from: usize) -> bool
     ensures { result ≡ is_end (drop from line.now) }
 {
-    if line.len() <= from {
-        return true;
+    match line.get(from..) {
+        Some(rest) => is_end(rest),
+        None => true,
     }
-    let left = line.len() - from;
-    let first = line[from];
-    if left == 1 {
-        return first == 10;
-    }
-    if left == 2 {
-        return (first == 13) & (line[from + 1] == 10);
-    }
-    false
 }
 
 // The count, the address and the type of a record.
 pub fn heading(line: &[u8]) -> Heading
     ensures { result ≡ heading_of line.now }
 {
-    let count = byte(line, 1);
     let high = byte(line, 3) as u32;
     let low = byte(line, 5) as u32;
-    let kind = byte(line, 7);
     Heading {
-        count: count,
+        count: byte(line, 1),
         address: 256 * high + low,
-        kind: kind,
+        kind: byte(line, 7),
     }
 }
 
-// What a line says.
-pub fn record(line: &[u8]) -> Line
+// What a line says; nothing where it is not of record form.
+#[tactic(auto, unfolding(image_meaning::specs::Records::record_of, crate::specs::Totals::total_of))]
+pub fn record(line: &[u8]) -> Option<Record>
     ensures { result ≡ record_of line.now }
 {
-    if line.len() == 0 {
-        return Line::NoRecord;
-    }
-    if line[0] != 58 {
-        return Line::NoRecord;
+    if *line.first()? != b':' {
+        return None;
     }
     let heading = heading(line);
-    let count = heading.count;
-    match sum_up(line, count) {
-        Total::NoByte => Line::NoRecord,
-        Total::Sum(sum) => {
-            if !ended(line, 11 + 2 * count as usize) {
-                return Line::NoRecord;
-            }
-            Line::Record {
-                count: count,
-                address: heading.address,
-                kind: heading.kind,
-                sum: sum,
-            }
-        }
+    let sum = sum_up(line, heading.count)?;
+    if !ended(line, 11 + 2 * heading.count as usize) {
+        return None;
+    }
+    Some(Record { heading, sum })
+}
+
+// Where the first LF of a text stands.
+fn first_lf(text: &[u8]) -> Option<usize>
+    ensures { result ≡ position (λ c. c == lf) text.now }
+{
+    text.iter().position(|c| *c == b'\n')
+}
+
+// Where the first line of a text ends: behind its LF, or at the end of the text.
+#[tactic(auto, using(crate::proofs::LineEnds::behind_the_lf, crate::proofs::LineEnds::at_the_end))]
+pub fn line_end(text: &[u8]) -> usize
+    ensures { result ≡ line_length text.now }
+{
+    match first_lf(text) {
+        Some(at) => at + 1,
+        None => text.len(),
     }
 }
 
-// Where the line that starts at `from` ends: behind its LF, or at the end of the text.
-pub fn line_end(text: &[u8], from: usize) -> usize
-    ensures { result ≡ from + line_length (drop from text.now) }
-{
-    let mut at = from;
-    while at < text.len() {
-        if text[at] == 10 {
-            return at + 1;
+// The lines of a text, one after the other.
+#[derive(Drop)]
+pub struct Lines<'a> {
+    pub rest: &'a [u8],
+}
+
+impl<'a> Iterator for Lines<'a> {
+    type Item = &'a [u8];
+
+    ghost next_gives = { YieldsFirstRef (λ s. lines_of s.rest.now) };
+
+    ghost remaining = { item_count (λ s. lines_of s.rest.now) };
+
+    #[tactic(auto, using(crate::proofs::FirstLine::line_and_rest, crate::proofs::FirstLine::inside))]
+    fn next(&mut self) -> Option<&'a [u8]> {
+        if self.rest.is_empty() {
+            return None;
         }
-        at += 1;
+        let (line, rest) = self.rest.split_at(line_end(self.rest));
+        self.rest = rest;
+        Some(line)
     }
-    at
 }

@@ -5,11 +5,12 @@ ghost use Rattle.alu.specs.Alu.{alu};
 ghost use Rattle.macro_meaning.specs.Effects.{add, dec, goes, put, mode};
 ghost use Rattle.macro_meaning.specs.Instructions.{jmp, call, interrupted, rti, rtn, gpsw, ppsw, ld, st, shift, arithmetic, logic, noop, computation, effect};
 
-use alu::{AluOutput, Flags};
+use alu::{AluOutput, Flags, code};
 use blocks::memory::{Store, load};
 use macro_meaning::{Effect, Operands};
 use status::jump::decide;
 use status::psw::Psw;
+use words::shifter;
 
 // The number of the supervisor's stack pointer.
 pub const SSP: u32 = 1;
@@ -177,7 +178,7 @@ fn st(o: Operands, offset: u32) -> Effect
 fn shift(o: Operands, code: u32) -> Effect
     ensures { result ≡ shift o (shifter code o.a).value (shifter code o.a).carry }
 {
-    let shifted = words::shifter::shift(code, o.a);
+    let shifted = shifter::shift(code, o.a);
     let psw = Psw {
         c: shifted.carry,
         ..o.psw
@@ -226,21 +227,21 @@ fn computation(key: u32, o: Operands) -> Effect
 {
     let Operands { b, imm, .. } = o;
     match key {
-        16 => arithmetic(o, 0, b),
-        17 => arithmetic(o, 1, b),
-        18 => arithmetic(o, 3, b),
-        19 => arithmetic(o, 4, b),
-        20 => logic(o, 6, b),
-        21 => logic(o, 8, b),
-        22 => logic(o, 7, b),
-        23 => logic(o, 9, b),
-        24 => arithmetic(o, 0, imm),
-        25 => arithmetic(o, 1, imm),
-        26 => arithmetic(o, 3, imm),
-        27 => arithmetic(o, 4, imm),
-        28 => logic(o, 6, imm),
-        29 => logic(o, 8, imm),
-        30 => logic(o, 7, imm),
+        16 => arithmetic(o, code::ADD, b),
+        17 => arithmetic(o, code::ADD_WITH_CARRY, b),
+        18 => arithmetic(o, code::SUBTRACT, b),
+        19 => arithmetic(o, code::SUBTRACT_WITH_CARRY, b),
+        20 => logic(o, code::AND, b),
+        21 => logic(o, code::OR, b),
+        22 => logic(o, code::XOR, b),
+        23 => logic(o, code::NOT, b),
+        24 => arithmetic(o, code::ADD, imm),
+        25 => arithmetic(o, code::ADD_WITH_CARRY, imm),
+        26 => arithmetic(o, code::SUBTRACT, imm),
+        27 => arithmetic(o, code::SUBTRACT_WITH_CARRY, imm),
+        28 => logic(o, code::AND, imm),
+        29 => logic(o, code::OR, imm),
+        30 => logic(o, code::XOR, imm),
         _ => noop(o),
     }
 }
@@ -267,9 +268,9 @@ pub fn perform(key: u32, memory: &[u32], o: Operands) -> Effect
         5 => ppsw(o),
         6 => ld(memory, o, b),
         7 => st(o, b),
-        8 => shift(o, 0),
-        9 => shift(o, 1),
-        10 => shift(o, 2),
+        8 => shift(o, shifter::LEFT),
+        9 => shift(o, shifter::RIGHT),
+        10 => shift(o, shifter::ARITHMETIC_RIGHT),
         11 => rtn(memory, o),
         14 => ld(memory, o, imm),
         15 => st(o, imm),

@@ -6,19 +6,22 @@ use crate::step::step;
 use answers::{Refusal, Steps};
 use macro_meaning::{MacroMachine, MacroState};
 
+// The largest request byte: there is no reset at this level.
+const MOST_REQUEST: u8 = 1;
+
 // What a run is lent, lowest number first.
 #[tactic(auto, using(answers::proofs::FirstPlace::found, answers::proofs::FirstPlace::not_found), unfolding(macro_meaning::specs::Run::macro_test))]
 fn tested(words: usize, s: &MacroState, requests: &[u8]) -> Result<(), Refusal>
     ensures { result ≡ macro_test words s.now requests.now }
 {
     answers::tests::lent(words, s.registers[0])?;
-    match answers::tests::first_above(1, requests) {
+    match answers::tests::first_above(MOST_REQUEST, requests) {
         Some(place) => Err(Refusal::Request(place)),
         None => Ok(()),
     }
 }
 
-// The loop.
+// One step for each byte, 1 for a request that is up.
 fn stepped(memory: &mut [u32], s: MacroMachine, requests: &[u8]) -> MacroMachine
     ensures value { result ≡ (steps memory.old s requests.now).machine }
     ensures memory_after { memory.new ≡ (steps memory.old s requests.now).memory }

@@ -39,7 +39,9 @@ fn phase_state(
     }
 }
 
-// The state words again, and the latch words.
+// The state words again, and the latch words. No From: the order is C's, which the crate that owns
+// PhaseState doesn't know. micro_call has the first line for its own struct: one function for both would
+// be lent the seven words one by one.
 fn phase_words(s: PhaseState) -> [u32; 7]
     ensures { result ≡ phase_words s }
 {

@@ -36,8 +36,8 @@ fn tested(words: usize, program: &[u64], s: PhaseState, request: u8) -> Result<(
     Ok(())
 }
 
-// The phase that is next. The number is C's, and the source's clock counts so (pp. 114-118): an enum
-// would only turn it round and back.
+// The phase that is next. Its number stays a number: C lends it and gets it back, and the source's
+// clock is one (GetPhaseClock, pp. 114-118). An enum would be made of it and unmade around one match.
 #[tactic(auto, unfolding(phase_meaning::specs::Call::phase_done))]
 fn phase_done(program: &[u64], memory: &[u32], s: PhaseMachine, request: u8) -> PhaseMachine
     ensures { result ≡ phase_done program.now memory.now s request }

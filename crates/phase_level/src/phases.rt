@@ -104,7 +104,6 @@ pub fn four(memory: &[u32], s: PhaseMachine) -> PhaseMachine
     } = s;
     let old = SystemRegisters { pc, ir, mar, mbr };
     let word = Microword::from(s.mir);
-    let trgt = word.trgt;
     let dest = Instruction::from(ir).dest;
     let a = choose(word.amux, mbr, s.alatch);
     let out = operate(word.alu, word.shft, word.csrc, a, s.blatch, psw.c);
@@ -112,7 +111,7 @@ pub fn four(memory: &[u32], s: PhaseMachine) -> PhaseMachine
     let next_psw = operation::psw(word, out, psw);
     let next = results::system(memory, word, dest, psw, result, old);
     PhaseMachine {
-        registers: results::registers(trgt, psw.sm, dest, s.registers, result),
+        registers: results::registers(word.trgt, psw.sm, dest, s.registers, result),
         psw: next_psw,
         pc: next.pc,
         ir: next.ir,

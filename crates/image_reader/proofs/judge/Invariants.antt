@@ -1,14 +1,10 @@
--- The loop's invariant: reading what is left from here is reading the whole text from the start.
-use Prim.Native.Nat.{◌-◌, ◌≤◌}
-use mathlib.Core.Path.{◌≡◌}
-use lib.ListN.{length, drop}
+-- Reading what is left from here is reading the whole text from the start.
+use Rattle.std.proofs.Common.{◌≡◌, ◌+◌, ◌≤◌, length, Ok}
 use Rattle.image_meaning.specs.Lines.{lines_of}
 use Rattle.image_meaning.specs.Reading.{judged, read_lines}
 use Rattle.image_reader.proofs.judge.Given as goal
 
-abbrev pub invariant-loop-at : goal.invariant-loop-at
-invariant-loop-at l =
-    (judged l.words l.text ≡ read_lines l.words l.lines l.reading (lines_of (drop l.at l.text))) × (l.lines ≤ l.at) × (l.at ≤ length l.text)
-
-abbrev pub decreases-loop-at : goal.decreases-loop-at
-decreases-loop-at l = length l.text - l.at
+abbrev pub invariant-loop-line : goal.invariant-loop-line
+invariant-loop-line l =
+    (judged l.words l.text ≡ read_lines l.words l.lines (Ok l.reading) (lines_of l.line-iterator.rest.now))
+    × (l.lines + length (lines_of l.line-iterator.rest.now) ≤ length l.text)
