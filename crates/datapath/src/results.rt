@@ -10,6 +10,7 @@ use control_store::microword::Microword;
 use status::psw::Psw;
 
 // The register that a target names; register 0, which is never written, where it names none.
+#[tactic(auto, unfolding(crate::specs::Results::target_register))]
 fn target_register(trgt: u32, dest: u32) -> u32
     ensures { result ≡ target_register trgt dest }
 {
@@ -21,6 +22,7 @@ fn target_register(trgt: u32, dest: u32) -> u32
 }
 
 // The register that a result is written to, by the old sm; 0 where it is written to none.
+#[tactic(auto, using(crate::proofs::Targets::none_written, crate::proofs::Targets::that_written))]
 pub fn written_register(trgt: u32, sm: bool, dest: u32) -> u32
     ensures { result ≡ written_register trgt sm dest }
 {
@@ -30,6 +32,7 @@ pub fn written_register(trgt: u32, sm: bool, dest: u32) -> u32
 }
 
 // The register file, by the old sm.
+#[tactic(auto, using(crate::proofs::Targets::by_the_rule))]
 pub fn registers(trgt: u32, sm: bool, dest: u32, registers: [u32; 32], res: u32) -> [u32; 32]
     ensures { result ≡ new_reg trgt sm dest registers res }
 {
@@ -58,6 +61,7 @@ fn pc(trgt: u32, dest: u32, psw: Psw, res: u32, pc: u32) -> u32
 }
 
 // MBR: a word read goes before a result.
+#[tactic(auto, using(crate::proofs::Targets::no_read, crate::proofs::Targets::word_read))]
 fn mbr(memory: &[u32], word: Microword, mar: u32, res: u32, mbr: u32) -> u32
     ensures { result ≡ new_mbr memory.now word mar res mbr }
 {
