@@ -10,20 +10,19 @@ use Rattle.words.specs.Lengths.{legal_length}
 use Rattle.words.proofs.Cases.{turned, upright}
 use Rattle.std.specs.Prelude.{Ok, Err}
 use Rattle.answers.specs.declared.Refusal.TheVariants.{MemoryLength, Room}
-use Rattle.answers.specs.Ends.{is_done}
-use Rattle.image_meaning.specs.declared.Written.{Written}
-use Rattle.image_meaning.specs.Writing.{written, written_text, written_length, write_answer, room_after}
+use Rattle.std.specs.Result.{is_ok}
+use Rattle.image_meaning.specs.Writing.{Written, written_length, write_answer, room_after}
 
 module _ (memory room : List ℕ) where
   abbrev pub AsMeant : Written → List ℕ → Type 0
   AsMeant answer after = (answer ≡ write_answer memory room) × (after ≡ room_after memory room)
 
-  untouched : {answer : Written} → write_answer memory room ≡ answer → is_done answer.end ≡ false → AsMeant answer room
+  untouched : {answer : Written} → write_answer memory room ≡ answer → is_ok answer ≡ false → AsMeant answer room
   unfolding room_after
   untouched e h = (sym e, rw (e, h))
 
   module _ {legal : Bool} (l : legal ≡ legal_length (length memory)) where
-    pub length_refused : not legal ≡ true → AsMeant (record { end = Err MemoryLength; bytes = 0 }) room
+    pub length_refused : not legal ≡ true → AsMeant (Err MemoryLength) room
     unfolding write_answer
     length_refused h = untouched (rw (← l, turned legal h)) refl
 
@@ -32,14 +31,6 @@ module _ (memory room : List ℕ) where
       is_legal = sym l ∙ upright legal h
 
       pub room_refused : length room < written_length (length memory) → AsMeant
-          (record { end = (Err (Room (written_length (length memory)))); bytes = 0 }) room
+          (Err (Room (written_length (length memory)))) room
       unfolding write_answer
       room_refused short = untouched (rw (is_legal, lt-leb (written_length (length memory)) (length room) short)) refl
-
-      pub all_written : written_length (length memory) ≤ length room → {after : List ℕ} → after ≡ sets room 0 (written_text memory) →
-          AsMeant (written (written_length (length memory))) after
-      unfolding room_after write_answer
-      all_written fits e = (
-        rw (is_legal, le-leb (written_length (length memory)) (length room) fits),
-        rw (is_legal, le-leb (written_length (length memory)) (length room) fits) e,
-      )

@@ -6,8 +6,7 @@ ghost use Rattle.std.proofs.lemmas.List.Edits.{sets};
 ghost use Rattle.image_meaning.specs.Digits.{digit, hex, sum_of};
 ghost use Rattle.image_meaning.specs.Writing.{line_of, data_bytes, written_text, written_length, write_answer, room_after};
 
-use answers::End;
-use image_meaning::Written;
+use answers::Refusal;
 
 // The digit, upper case, of a value modulo 16.
 fn digit(v: u8) -> u8
@@ -137,27 +136,19 @@ fn put_text(memory: &[u32], room: &mut [u8])
     put_line(room, 44 * i, &last);
 }
 
-// The whole call. The room is not touched before all is known to fit.
-pub fn write(memory: &[u32], room: &mut [u8]) -> Written
+// The whole call: the bytes written. The room is not touched before all is known to fit.
+#[tactic(auto, using(image_meaning::proofs::InFours::whole_fours, image_meaning::proofs::InFours::at_most_16384), unfolding(image_meaning::specs::Writing::write_answer, image_meaning::specs::Writing::room_after))]
+pub fn write(memory: &[u32], room: &mut [u8]) -> Result<usize, Refusal>
     ensures { (result ≡ write_answer memory.now room.old)
         × (room.new ≡ room_after memory.now room.old) }
 {
     if !words::lengths::legal(memory.len()) {
-        return Written {
-            end: End::MemoryLength,
-            bytes: 0,
-        };
+        return Err(Refusal::MemoryLength);
     }
     let needed = 11 * memory.len() + 12;
     if room.len() < needed {
-        return Written {
-            end: End::Room(needed),
-            bytes: 0,
-        };
+        return Err(Refusal::Room(needed));
     }
     put_text(memory, room);
-    Written {
-        end: End::Done,
-        bytes: needed,
-    }
+    Ok(needed)
 }
