@@ -8,20 +8,26 @@ ghost use Rattle.board_meaning.specs.Board.{moved_found, macro_seen, shown_on, b
 
 use answers::Microcycles;
 use board_meaning::Moved;
-use calls::answer_of;
+use calls::{answer_of, refuse};
 use macro_meaning::MacroState;
-use micro_meaning::MicroState;
+use micro_meaning::{MicroState, Ran};
 
 // What the macro level sees of a board.
 fn macro_state(board: MicroState) -> MacroState
     ensures { result ≡ macro_seen board }
 {
-    let registers = board.registers;
+    let MicroState {
+        registers,
+        psw,
+        pc,
+        ivec,
+        ..
+    } = board;
     MacroState {
-        registers: registers,
-        psw: board.psw,
-        pc: board.pc,
-        ivec: board.ivec,
+        registers,
+        psw,
+        pc,
+        ivec,
     }
 }
 
@@ -29,50 +35,51 @@ fn macro_state(board: MicroState) -> MacroState
 fn board_after(board: MicroState, s: MacroState) -> MicroState
     ensures { result ≡ shown_on board s }
 {
-    let registers = s.registers;
+    let MacroState {
+        registers,
+        psw,
+        pc,
+        ivec,
+    } = s;
     MicroState {
-        registers: registers,
-        psw: s.psw,
-        pc: s.pc,
-        ir: board.ir,
-        mar: board.mar,
-        mbr: board.mbr,
-        mpc: board.mpc,
-        ivec: s.ivec,
+        registers,
+        psw,
+        pc,
+        ivec,
+        ..board
     }
 }
 
 // One microcycle: a run over one request byte.
+#[tactic(auto, unfolding(board_meaning::specs::Board::board_microcycle))]
 pub fn microcycle(board: MicroState, program: &[u64], memory: &mut [u32], request: u8) -> Moved
     ensures { moved_found result memory.new
         ≡ board_microcycle board program.now memory.old request }
 {
-    let one_microcycle = [request];
-    let called = micro_level::run(program, memory, board, &one_microcycle);
-    let end = called.end;
-    let microcycles = called.microcycles;
-    let steps = called.steps;
-    let after = called.state;
-    let answer = answer_of(end, microcycles, steps);
+    let Ran {
+        end,
+        microcycles,
+        steps,
+        state,
+    } = micro_level::run(program, memory, board, &[request]);
     Moved {
-        answer: answer,
-        board: after,
+        answer: answer_of(end, microcycles, steps),
+        board: state,
     }
 }
 
 // One instruction step: a run of the macro level over one request byte.
+#[tactic(auto, unfolding(board_meaning::specs::Board::board_instruction))]
 pub fn instruction(board: MicroState, memory: &mut [u32], request: u8) -> Moved
     ensures { moved_found result memory.new ≡ board_instruction board memory.old request }
 {
-    let one_step = [request];
-    let called = macro_level::run::run(memory, macro_state(board), &one_step);
-    let end = called.end;
-    let steps = called.steps;
-    let stepped = board_after(board, called.state);
-    let microcycles = Microcycles { count: 0 };
-    let answer = answer_of(end, microcycles, steps);
+    let mut seen = macro_state(board);
+    let answer = match macro_level::run::run(memory, &mut seen, &[request]) {
+        Ok(steps) => answer_of(Ok(()), Microcycles::NONE, steps),
+        Err(refusal) => refuse(refusal),
+    };
     Moved {
-        answer: answer,
-        board: stepped,
+        answer,
+        board: board_after(board, seen),
     }
 }

@@ -56,10 +56,10 @@ module _ (board : MicroState) (mem : List ℕ) (request : ℕ) where
   pub instruction_cases : (P : BoardFound → Type 0) → P (refused_with macro_tested board mem) → DoneAnyhow P
       → P (board_instruction board mem request)
   unfolding board_instruction macro.run
-  instruction_cases P refused done = by_test (is_done macro_tested)
+  instruction_cases P refused done = by_test macro_tested refused
     where
-      by_test : (b : Bool)
-          → P (instruction_found board (cond b (macro.macro_done 1 (macro.steps mem (machine.macro_unpacked (macro_seen board)) (request ∷ [])))
-          (macro.macro_refused macro_tested (macro_seen board) mem)))
-      by_test true = done 0 1 _ _
-      by_test false = refused
+      by_test : (test : End) → P (refused_with test board mem)
+          → P (instruction_found board (macro.macro_tested_first test (macro_seen board) mem
+          (macro.macro_done 1 (macro.steps mem (machine.macro_unpacked (macro_seen board)) (request ∷ [])))))
+      by_test (Ok _) r = done 0 1 _ _
+      by_test (Err refusal) r = r

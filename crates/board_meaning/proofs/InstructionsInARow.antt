@@ -15,15 +15,16 @@ use Rattle.status.specs.declared.psw.Psw.{Psw}
 use Rattle.status.proofs.PswNumbers.{dropped, restored, six_bits}
 use Rattle.answers.specs.Ends.{End}
 use Rattle.std.specs.Prelude.{Ok, Err}
+use Rattle.std.specs.Result.{result_and}
 use Rattle.answers.specs.declared.Refusal.TheVariants.{Request}
 use Rattle.answers.specs.Ends.{is_done}
+use Rattle.answers.proofs.OneNumberAnEnd.{only_done_is_done, done_is_0}
 use Rattle.answers.specs.Places.{above, first_place}
 use Rattle.answers.specs.Tests.{lent_test}
 use Rattle.micro_meaning.specs.declared.MicroState.{MicroState}
-use Rattle.macro_meaning.specs.declared.MacroMachine.{MacroMachine}
-use Rattle.macro_meaning.specs.Machine.{macro_unpacked, macro_packed}
+use Rattle.macro_meaning.specs.Machine.{MacroMachine, macro_unpacked, macro_packed}
 use Rattle.macro_meaning.specs.Step.{Macro, step}
-use Rattle.macro_meaning.specs.Run.{most_step_request, macro_test, up, steps, macro_done, macro_refused, run}
+use Rattle.macro_meaning.specs.Run.{most_step_request, macro_test, up, steps, macro_done, macro_tested_first, run}
 use Rattle.board_meaning.specs.Board.{BoardFound, macro_seen, shown_on, instruction_found, board_instruction}
 
 -- what a display shows
@@ -51,61 +52,52 @@ abbrev pub shown_by : BoardFound → Shown
 shown_by call = record { board = call.board; memory = call.memory; steps = call.answer.steps.count }
 
 module _ (board : MicroState) (mem : List ℕ) where
-  abbrev ran : List ℕ → BoardFound
-  ran requests = instruction_found board (macro_done (length requests) (steps mem (macro_unpacked (macro_seen board)) requests))
-
   -- a run by the outcome of its tests
-  abbrev by_tests : Bool → List ℕ → BoardFound
-  by_tests fine requests =
+  abbrev by_tests : End → List ℕ → BoardFound
+  by_tests test requests =
       instruction_found board
-      (cond fine (macro_done (length requests) (steps mem (macro_unpacked (macro_seen board)) requests))
-      (macro_refused (macro_test (length mem) (macro_seen board) requests) (macro_seen board) mem))
+      (macro_tested_first test (macro_seen board) mem (macro_done (length requests) (steps mem (macro_unpacked (macro_seen board)) requests)))
 
-  abbrev fine : List ℕ → Bool
-  fine requests = is_done (macro_test (length mem) (macro_seen board) requests)
+  abbrev tests : List ℕ → End
+  tests requests = macro_test (length mem) (macro_seen board) requests
 
-  tests_passed : (request : ℕ) → eqb (board_instruction board mem request).answer.number 0 ≡ true → fine (request ∷ []) ≡ true
+  tests_passed : (request : ℕ) → eqb (board_instruction board mem request).answer.number 0 ≡ true → tests (request ∷ []) ≡ Ok tt
   unfolding board_instruction run
-  tests_passed request d = go (fine (request ∷ [])) refl d
+  tests_passed request d = only_done_is_done (tests (request ∷ [])) (go (tests (request ∷ [])) d)
     where
-      go : (b : Bool) → fine (request ∷ []) ≡ b → eqb (by_tests b (request ∷ [])).answer.number 0 ≡ true → fine (request ∷ []) ≡ true
-      go true e d = e
-      go false e d = d
+      go : (test : End) → eqb (by_tests test (request ∷ [])).answer.number 0 ≡ true → is_done test ≡ true
+      go (Ok _) d = refl
+      go (Err refusal) d = done_is_0 (Err refusal) ∙ d
 
   -- so a done call is its step
   is_its_step : (request : ℕ) → eqb (board_instruction board mem request).answer.number 0 ≡ true
-      → board_instruction board mem request ≡ ran (request ∷ [])
+      → board_instruction board mem request ≡ by_tests (Ok tt) (request ∷ [])
   unfolding board_instruction run
-  is_its_step request d = ap (λ (b : Bool). by_tests b (request ∷ [])) (tests_passed request d)
+  is_its_step request d = ap (λ (test : End). by_tests test (request ∷ [])) (tests_passed request d)
 
   abbrev lent : End
   lent = lent_test (length mem) (register board.registers 0)
 
   -- what its tests tell: what is lent is good, and so is the byte
-  lent_good : (request : ℕ) → fine (request ∷ []) ≡ true → is_done lent ≡ true
+  lent_good : (request : ℕ) → tests (request ∷ []) ≡ Ok tt → lent ≡ Ok tt
   unfolding macro_test
-  lent_good request d = go (is_done lent) refl d
+  lent_good request e = go lent _ e
     where
-      bytes : End
-      bytes =
-          let first_bad = first_place (above most_step_request) (request ∷ []) in
-          cond (ltb first_bad 1) (Err (Request first_bad)) (Ok tt)
+      go : (first second : End) → result_and first second ≡ Ok tt → first ≡ Ok tt
+      go (Ok _) second e = refl
+      go (Err refusal) second e = absurd cc
 
-      go : (b : Bool) → is_done lent ≡ b → is_done (cond b bytes lent) ≡ true → is_done lent ≡ true
-      go true e d = e
-      go false e d = d
-
-  byte_good : (request : ℕ) → fine (request ∷ []) ≡ true → above most_step_request request ≡ false
+  byte_good : (request : ℕ) → tests (request ∷ []) ≡ Ok tt → above most_step_request request ≡ false
   unfolding macro_test first_place
-  byte_good request d = go (above most_step_request request) (is_done lent) (lent_good request d) d
+  byte_good request e = go lent (above most_step_request request) e
     where
-      place : Bool → ℕ
-      place bad = cond bad 0 (suc 0)
+      bytes : Bool → End
+      bytes bad = let place = cond bad 0 (suc 0) in cond (ltb place 1) (Err (Request place)) (Ok tt)
 
-      go : (bad l : Bool) → l ≡ true → is_done (cond l (cond (ltb (place bad) 1) (Err (Request (place bad))) (Ok tt)) lent) ≡ true → bad ≡ false
-      go false l e d = refl
-      go true true e d = absurd (false≢true d)
-      go true false e d = absurd (false≢true e)
+      go : (first : End) (bad : Bool) → result_and first (bytes bad) ≡ Ok tt → bad ≡ false
+      go (Ok _) true e = absurd cc
+      go (Ok _) false e = refl
+      go (Err refusal) bad e = absurd cc
 
 all_good : (requests : List ℕ) (board : MicroState) (mem : List ℕ) → AllDone board mem requests
     → first_place (above most_step_request) requests ≡ length requests
@@ -188,8 +180,8 @@ are_steps (request ∷ rest) board mem six all =
         }) (one_and (length rest))
 
 -- tests that each call passes alone pass together
-together : (board : MicroState) (mem requests : List ℕ) → is_done (lent board mem) ≡ true
-    → first_place (above most_step_request) requests ≡ length requests → fine board mem requests ≡ true
+together : (board : MicroState) (mem requests : List ℕ) → lent board mem ≡ Ok tt
+    → first_place (above most_step_request) requests ≡ length requests → tests board mem requests ≡ Ok tt
 unfolding macro_test
 together board mem requests l good = rw (l, good, le-ltb (length requests) (length requests) (le_refl (length requests)))
 
@@ -197,13 +189,13 @@ together board mem requests l good = rw (l, good, le-ltb (length requests) (leng
 pub calls_are_a_run : (requests : List ℕ) (board : MicroState) (mem : List ℕ) → board.psw < 64 → AllDone board mem requests
     → one_by_one board mem requests ≡ shown_by (instruction_found board (run mem (macro_seen board) requests))
 unfolding run AllDone steps
-calls_are_a_run [] board mem six all = are_steps [] board mem six all ∙ by_test (fine board mem [])
+calls_are_a_run [] board mem six all = are_steps [] board mem six all ∙ by_test (tests board mem [])
   where
-    by_test : (b : Bool) → after board (macro_unpacked (macro_seen board)) mem [] ≡ shown_by (by_tests board mem b [])
-    by_test true = refl
-    by_test false = ap (λ (b : MicroState). record { board = b; memory = mem; steps = 0 }) (packed_again board six)
+    by_test : (test : End) → after board (macro_unpacked (macro_seen board)) mem [] ≡ shown_by (by_tests board mem test [])
+    by_test (Ok _) = refl
+    by_test (Err refusal) = ap (λ (b : MicroState). record { board = b; memory = mem; steps = 0 }) (packed_again board six)
 calls_are_a_run (request ∷ rest) board mem six all =
     are_steps (request ∷ rest) board mem six all
-    ∙ ap (λ (b : Bool). shown_by (by_tests board mem b (request ∷ rest)))
+    ∙ ap (λ (test : End). shown_by (by_tests board mem test (request ∷ rest)))
     (sym (together board mem (request ∷ rest) (lent_good board mem request (tests_passed board mem request all.0))
     (all_good (request ∷ rest) board mem all)))

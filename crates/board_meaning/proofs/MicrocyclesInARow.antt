@@ -10,6 +10,7 @@ use lib.Dec.{eqb}
 use lib.ListN.{length}
 use Rattle.answers.specs.Ends.{is_done}
 use Rattle.answers.specs.Places.{first_place}
+use Rattle.answers.proofs.OneNumberAnEnd.{done_is_0}
 use Rattle.micro_meaning.specs.declared.MicroState.{MicroState}
 use Rattle.micro_meaning.specs.Machine.{micro_unpacked}
 use Rattle.micro_meaning.specs.Run.{MicroCalled, bad_request, micro_test, run_on, answered, micro_refused, run}
@@ -74,6 +75,12 @@ module _ (program : List ℕ) where
       by_test true = ap (λ (s : MicroState). unmoved s mem) (sym (packed_again board six))
       by_test false = refl
 
+  -- by its number a call's run is done
+  done : (board : MicroState) (mem : List ℕ) (request : ℕ) → eqb (board_microcycle board program mem request).answer.number 0 ≡ true
+      → is_done (run program mem board (request ∷ [])).answer.end ≡ true
+  unfolding board_microcycle
+  done board mem request d = done_is_0 (run program mem board (request ∷ [])).answer.end ∙ d
+
   -- a done call's byte is good
   good_byte : (board : MicroState) (mem : List ℕ) (request : ℕ) → is_done (run program mem board (request ∷ [])).answer.end ≡ true
       → first_place bad_request (request ∷ []) ≡ 1
@@ -93,7 +100,7 @@ module _ (program : List ℕ) where
   good_bytes [] board mem all = refl
   good_bytes (request ∷ rest) board mem all =
       let call = board_microcycle board program mem request in
-      go (bad_request request) (good_byte board mem request all.0) (good_bytes rest call.board call.memory all.1)
+      go (bad_request request) (good_byte board mem request (done board mem request all.0)) (good_bytes rest call.board call.memory all.1)
     where
       go : (b : Bool) → cond b 0 (suc 0) ≡ suc 0 → first_place bad_request rest ≡ length rest
           → cond b 0 (suc (first_place bad_request rest)) ≡ suc (length rest)
@@ -109,4 +116,4 @@ module _ (program : List ℕ) where
       ap (on_top (board_microcycle board program mem request))
       (calls_are_a_run rest first.answer.state first.memory (call_six_bits program mem board (request ∷ []) six) all.1)
       ∙ sym (ap shown_by
-      (in_a_row program mem board (request ∷ []) rest six all.0 (good_bytes rest first.answer.state first.memory all.1)))
+      (in_a_row program mem board (request ∷ []) rest six (done board mem request all.0) (good_bytes rest first.answer.state first.memory all.1)))

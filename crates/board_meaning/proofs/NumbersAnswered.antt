@@ -9,8 +9,9 @@ use Rattle.words.specs.Lengths.{legal_length}
 use Rattle.words.specs.Registers.{register}
 use Rattle.answers.specs.Ends.{End}
 use Rattle.std.specs.Prelude.{Ok, Err}
+use Rattle.std.specs.Result.{result_and}
 use Rattle.answers.specs.declared.Refusal.TheVariants.{MemoryLength, RegisterZero, ProgramLength, Microword, Outside, Request}
-use Rattle.answers.specs.Ends.{shown, is_done}
+use Rattle.answers.specs.Ends.{shown}
 use Rattle.answers.specs.Places.{above, first_place}
 use Rattle.answers.specs.Tests.{lent_test}
 use Rattle.control_store.specs.ControlStore.{legal_store_length, lowest_illegal, store_test}
@@ -40,11 +41,11 @@ lent memory zero = cond memory (cond zero (Ok tt) (Err RegisterZero)) (Err Memor
 
 abbrev machine : Bool → Bool → Bool → Bool → ℕ → End
 machine memory zero size bad_word word =
-    cond (is_done (lent memory zero)) (cond size (cond bad_word (Err (Microword word)) (Ok tt)) (Err ProgramLength)) (lent memory zero)
+    result_and (lent memory zero) (cond size (cond bad_word (Err (Microword word)) (Ok tt)) (Err ProgramLength))
 
 by_micro_tests : (memory zero size bad_word inside bad : Bool) (word place : ℕ)
-    → among microcycle_numbers (shown (cond (is_done (machine memory zero size bad_word word))
-    (cond inside (cond bad (Err (Request place)) (Ok tt)) (Err Outside)) (machine memory zero size bad_word word))).number ≡ true
+    → among microcycle_numbers (shown (result_and (machine memory zero size bad_word word)
+    (cond inside (cond bad (Err (Request place)) (Ok tt)) (Err Outside)))).number ≡ true
 by_micro_tests false zero size bad_word inside bad word place = refl
 by_micro_tests true false size bad_word inside bad word place = refl
 by_micro_tests true true false bad_word inside bad word place = refl
@@ -54,8 +55,7 @@ by_micro_tests true true true false true true word place = refl
 by_micro_tests true true true false true false word place = refl
 
 by_macro_tests : (memory zero bad : Bool) (place : ℕ)
-    → among instruction_numbers (shown (cond (is_done (lent memory zero))
-    (cond bad (Err (Request place)) (Ok tt)) (lent memory zero))).number ≡ true
+    → among instruction_numbers (shown (result_and (lent memory zero) (cond bad (Err (Request place)) (Ok tt)))).number ≡ true
 by_macro_tests false zero bad place = refl
 by_macro_tests true false bad place = refl
 by_macro_tests true true true place = refl

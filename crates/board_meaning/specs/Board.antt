@@ -5,8 +5,9 @@ use Rattle.calls.specs.declared.Answer.{Answer}
 use Rattle.calls.specs.Answers.{answered}
 use Rattle.micro_meaning.specs.declared.MicroState.{MicroState}
 use Rattle.micro_meaning.specs.Run as micro
-use Rattle.macro_meaning.specs.declared.MacroState.{MacroState}
+use Rattle.macro_meaning.specs.Machine.{MacroState}
 use Rattle.macro_meaning.specs.Run as macro
+use Rattle.macro_call.specs.Steps.{steps_answered}
 use Rattle.board_meaning.specs.declared.Moved.{Moved}
 
 -- what a call answers, and what it leaves
@@ -58,8 +59,8 @@ shown_on board s =
 abbrev pub instruction_found : MicroState → macro.MacroCalled → BoardFound
 instruction_found board called =
     record {
-      answer = answered called.answer.end (record { count = 0 }) called.answer.steps;
-      board = shown_on board called.answer.state;
+      answer = steps_answered called.answer;
+      board = shown_on board called.state;
       memory = called.memory;
     }
 

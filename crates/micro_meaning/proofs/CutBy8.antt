@@ -9,10 +9,10 @@ use mathlib.Core.List.{List}
 use lib.Dec.{eqb}
 use lib.ListN.{length, take}
 use borrow.Author.Tests.{eqb-true}
-use Rattle.answers.specs.Ends.{End}
-use Rattle.std.specs.Prelude.{Ok, Err}
+use Rattle.std.specs.Prelude.{Ok}
 use Rattle.answers.specs.Ends.{is_done, shown}
 use Rattle.answers.proofs.FirstPlace.{none_in_front}
+use Rattle.answers.proofs.OneNumberAnEnd.{done_is_0}
 use Rattle.micro_meaning.specs.declared.MicroState.{MicroState}
 use Rattle.micro_meaning.specs.Machine.{micro_unpacked, micro_packed}
 use Rattle.micro_meaning.specs.Run.{RanOn, MicroCalled, bad_request, micro_test, run_on, answered, micro_refused, run}
@@ -20,11 +20,6 @@ use Rattle.micro_meaning.proofs.RunJoins.{cut, unmoved}
 use Rattle.micro_meaning.proofs.RunTests.{Fine, fine}
 use Rattle.micro_meaning.proofs.TestNumbers.{at_most_7}
 use Rattle.micro_meaning.proofs.RunsInARow.{as_run}
-
--- a run that answers 8 is not done
-refused_with_8 : (end : End) → (shown end).number ≡ 8 → is_done end ≡ false
-refused_with_8 (Ok _) e = absurd (omega arith)
-refused_with_8 (Err refusal) e = refl
 
 module _ (program mem : List ℕ) (s : MicroState) (requests : List ℕ) where
   abbrev whole : RanOn
@@ -38,7 +33,7 @@ module _ (program mem : List ℕ) (s : MicroState) (requests : List ℕ) where
       by_test : (b : Bool) → is_done (micro_test (length mem) program s requests) ≡ b
           → (shown (cond b (answered s whole) (micro_refused (micro_test (length mem) program s requests) s mem)).answer.end).number ≡ 8
           → Fine (length mem) program s requests × (is_done whole.ran.end ≡ false)
-      by_test true t e = (fine (length mem) program s requests t, refused_with_8 whole.ran.end e)
+      by_test true t e = (fine (length mem) program s requests t, done_is_0 whole.ran.end ∙ ap (λ (n : ℕ). eqb n 0) e)
       by_test false t e = let below = at_most_7 (length mem) program s requests in absurd (omega (arith, below))
 
   -- the run's own state is the one that the shorter call gives

@@ -1,2 +1,0 @@
--- A run over one byte, which the functions are.
-pub mod OneByte
