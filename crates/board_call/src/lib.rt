@@ -69,17 +69,18 @@ pub fn microcycle(board: MicroState, program: &[u64], memory: &mut [u32], reques
 }
 
 // One instruction step: a run of the macro level over one request byte.
-#[tactic(auto, unfolding(board_meaning::specs::Board::board_instruction))]
+#[tactic(auto, using(macro_meaning::proofs::RefusedRuns::handed_back_refused), unfolding(board_meaning::specs::Board::board_instruction))]
 pub fn instruction(board: MicroState, memory: &mut [u32], request: u8) -> Moved
     ensures { moved_found result memory.new ≡ board_instruction board memory.old request }
 {
-    let mut seen = macro_state(board);
-    let answer = match macro_level::run::run(memory, &mut seen, &[request]) {
-        Ok(steps) => answer_of(Ok(()), Microcycles::NONE, steps),
-        Err(refusal) => refuse(refusal),
-    };
-    Moved {
-        answer,
-        board: board_after(board, seen),
+    match macro_level::run::run(memory, macro_state(board), &[request]) {
+        Ok(ran) => Moved {
+            answer: answer_of(Ok(()), Microcycles::NONE, ran.steps),
+            board: board_after(board, ran.state),
+        },
+        Err(refusal) => Moved {
+            answer: refuse(refusal),
+            board,
+        },
     }
 }
