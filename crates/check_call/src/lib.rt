@@ -4,15 +4,14 @@
 ghost use Rattle.check_call.specs.Checks.{CheckAnswer};
 
 use answers::Steps;
-use calls::{Answer, answer_of};
+use calls::{Answer, answer_of, refuse};
 
 // Checks a microprogram without running it.
 pub fn check(program: &[u64]) -> Answer
     ensures { CheckAnswer program.now result }
 {
-    let checked = check_walks::check(program);
-    let end = checked.end;
-    let longest = checked.longest;
-    let none = Steps { count: 0 };
-    answer_of(end, longest, none)
+    match check_walks::check(program) {
+        Ok(longest) => answer_of(Ok(()), longest, Steps::NONE),
+        Err(refusal) => refuse(refusal),
+    }
 }

@@ -15,7 +15,7 @@ use borrow.Author.Tests.{lt-leb, eqb-true, eqb-false}
 use Rattle.words.specs.Fields.{opcode}
 use Rattle.words.proofs.FieldBounds.{field_lt}
 use Rattle.answers.specs.Ends.{End}
-use Rattle.std.specs.Prelude.{Ok, Err}
+use Rattle.std.specs.Prelude.{Ok}
 use Rattle.answers.specs.Ends.{shown, is_done}
 use Rattle.answers.proofs.OneNumberAnEnd.{only_done_is_done}
 use Rattle.control_store.specs.Sequencer.{fetch_address}
@@ -169,12 +169,12 @@ module _ (program : List ℕ) {n : ℕ} (accepted : Accepted program n) where
     back_in_time h = returns_keep_coming 1 (omega (arith, h))
 
     -- from wherever the run is back at fetch
-    pub again_in_time : (more : List ℕ) → at_fetch (run_on program mem s 0 0 requests).ran.machine ≡ true → n ≤ length more
+    pub again_in_time : (more : List ℕ) → at_fetch (run_on program mem s 0 0 requests).ran.state ≡ true → n ≤ length more
         → suc (run_on program mem s 0 0 requests).ran.steps.count ≤ (run_on program mem s 0 0 (requests ++ more)).ran.steps.count
     again_in_time more back h =
         let r = run_on program mem s 0 0 requests in
-        let there = subst (UnderWay program 0) (sym (eqb-true r.ran.machine.mpc fetch_address back)) begun in
-        let one = keep_coming more 1 r.memory r.ran.machine r.ran.microcycles.count r.ran.steps.count there (omega (arith, h)) in
+        let there = subst (UnderWay program 0) (sym (eqb-true r.ran.state.mpc fetch_address back)) begun in
+        let one = keep_coming more 1 r.memory r.ran.state r.ran.microcycles.count r.ran.steps.count there (omega (arith, h)) in
         subst (λ (all : RanOn). suc r.ran.steps.count ≤ all.ran.steps.count) (sym (joined program requests more mem s 0 0 (ap is_done never_refused)))
         (omega (arith, one))
 

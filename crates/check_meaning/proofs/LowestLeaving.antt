@@ -1,94 +1,55 @@
 -- The lowest word that was seen and can leave: it was seen and can leave, and no lower one was and can.
-use Prim.Native.Nat.{ℕ, zero, suc, ◌+◌, ◌/◌, ◌<◌, ◌≤◌}
-use native.Mathlib.Nat.{add-zero, add-suc, suc-add, zero-add, not-suc-le-zero, le_of_suc-le-suc}
+use Prim.Native.Nat.{ℕ, ◌<◌, ◌≤◌}
+use native.Mathlib.Nat.{zero-add}
 use native.Mathlib.Omega.{arith}
-use mathlib.Core.Path.{◌≡◌, refl, sym, ap₂, subst, ◌∙◌}
-use mathlib.Core.Bool.{Bool, true, false, false≢true, cond, ◌&&◌}
-use mathlib.Core.List.{List, [], ◌∷◌}
+use mathlib.Core.Path.{◌≡◌, sym, ap, ap₂, ◌∙◌}
+use mathlib.Core.Bool.{Bool, true, false, false≢true, ◌&&◌}
+use mathlib.Core.Logic.{⊎_elim}
+use mathlib.Core.List.{List}
 use lib.ListN.{length, get_or}
-use Rattle.words.proofs.Cases.{both_of}
-use Rattle.check_meaning.specs.Survey.{in_lowest, passes, first_leaving, lowest_leaving}
-use Rattle.check_meaning.proofs.Sets.{has}
+use Rattle.std.specs.Prelude.{Some, None}
+use Rattle.std.specs.List.{position_or_len, enumerate_from}
+use Rattle.std.proofs.lemmas.Grind.{common_steps}
+use Rattle.std.proofs.lemmas.List.FromFn.{length-enumerate_from, get_or-enumerate_from}
+use Rattle.std.proofs.lemmas.List.Quantifiers.{position-Some}
+use Rattle.std.proofs.lemmas.List.Sums.{fails_before_first}
+use Rattle.words.proofs.Cases.{lt_or_le, both_of}
+use Rattle.check_meaning.specs.declared.AddressSet.{AddressSet}
+use Rattle.check_meaning.specs.Survey.{has, passes, lowest_leaving}
 
-module _ (limit : ℕ) where
-  -- the word at `a + i`, the i-th of those from `a` on, was seen and can leave
-  record Leaver (a : ℕ) (ws : List ℕ) (seen i : ℕ) : Type 0 where
-    inside : i < length ws
-    stood_on : has seen i ≡ true
-    passing : passes limit (a + i) (get_or ws i 0) ≡ true
+module _ (program : List ℕ) (seen : AddressSet) where
+  -- the word at `a` was seen and can leave
+  pub record Leaver (a : ℕ) : Type 0 where
+    pub inside : a < length program
+    pub stood_on : has seen a ≡ true
+    pub passing : passes (length program) a (get_or program a 0) ≡ true
 
-  further : (a w : ℕ) (ws : List ℕ) (seen i : ℕ) → Leaver (suc a) ws (seen / 2) i → Leaver a (w ∷ ws) seen (suc i)
-  further a w ws seen i l =
+  abbrev leaves : ℕ × ℕ → Bool
+  leaves p = has seen p.0 && passes (length program) p.0 p.1
+
+  abbrev places : List (ℕ × ℕ)
+  places = enumerate_from 0 program
+
+  -- the test at a place is that of the word there
+  tested : (a : ℕ) → a < length program → leaves (get_or places a (0, 0)) ≡ (has seen a && passes (length program) a (get_or program a 0))
+  tested a h = ap leaves (get_or-enumerate_from 0 program a (0, 0) h) ∙ rw (zero-add a)
+
+  passed_over : (c : ℕ) → Leaver c → leaves (get_or places c (0, 0)) ≡ false → ⊥
+  passed_over c l f = false≢true (sym f ∙ tested c l.inside ∙ ap₂ ◌&&◌ l.stood_on l.passing)
+
+  pub lowest_leaves : {a : ℕ} → lowest_leaving program seen ≡ Some a → Leaver a × ((c : ℕ) → Leaver c → a ≤ c)
+  unfolding lowest_leaving
+  lowest_leaves {a} e =
+      let (h, t, below) = position-Some leaves places a (0, 0) e in
+      let inside : a < length program = omega (arith, h, length-enumerate_from 0 program) in
+      let (stood_on, passing) = both_of (has seen a) (passes (length program) a (get_or program a 0)) (sym (tested a inside) ∙ t) in (
+        record { inside = inside; stood_on = stood_on; passing = passing },
+        λ c l. ⊎_elim (λ k. absurd (passed_over c l (below c k))) (λ k. k) (lt_or_le c a),
+      )
+
+  pub none_leaves : lowest_leaving program seen ≡ None → (c : ℕ) → Leaver c → ⊥
+  unfolding lowest_leaving
+  none_leaves e c l =
+      let all : length places ≤ position_or_len leaves places = grind (arith, common_steps) in
       let inside = l.inside in
-      record {
-        inside = omega (arith, inside);
-        stood_on = l.stood_on;
-        passing = subst (λ (k : ℕ). passes limit k (get_or ws i 0) ≡ true) (suc-add a i ∙ sym (add-suc a i)) l.passing;
-      }
-
-  nearer : (a w : ℕ) (ws : List ℕ) (seen i : ℕ) → Leaver a (w ∷ ws) seen (suc i) → Leaver (suc a) ws (seen / 2) i
-  nearer a w ws seen i l =
-      record {
-        inside = le_of_suc-le-suc l.inside;
-        stood_on = l.stood_on;
-        passing = subst (λ (k : ℕ). passes limit k (get_or ws i 0) ≡ true) (add-suc a i ∙ sym (suc-add a i)) l.passing;
-      }
-
-  first_leaves : (ws : List ℕ) (a seen : ℕ) → first_leaving limit a ws seen < a + length ws
-      → (i : ℕ) × (first_leaving limit a ws seen ≡ a + i) × Leaver a ws seen i
-  unfolding first_leaving
-  first_leaves [] a seen h = absurd (omega arith)
-  first_leaves (w ∷ ws) a seen h = by_test (in_lowest seen && passes limit a w) refl (first_leaves ws (suc a) (seen / 2)) h
-    where
-      rest : ℕ
-      rest = first_leaving limit (suc a) ws (seen / 2)
-
-      by_test : (b : Bool) → (in_lowest seen && passes limit a w) ≡ b
-          → (rest < suc a + length ws → (i : ℕ) × (rest ≡ suc a + i) × Leaver (suc a) ws (seen / 2) i)
-          → cond b a rest < a + suc (length ws) → (i : ℕ) × (cond b a rest ≡ a + i) × Leaver a (w ∷ ws) seen i
-      by_test true e later h =
-          let (stood_on, passing) = both_of (in_lowest seen) (passes limit a w) e in (
-            0,
-            sym (add-zero a),
-            record {
-              inside = omega arith;
-              stood_on = stood_on;
-              passing = subst (λ (k : ℕ). passes limit k w ≡ true) (sym (add-zero a)) passing;
-            },
-          )
-      by_test false e later h = let (i, place, l) = later (omega (arith, h)) in (suc i, place ∙ suc-add a i ∙ sym (add-suc a i), further a w ws seen i l)
-
-  first_least : (ws : List ℕ) (a seen i : ℕ) → Leaver a ws seen i → first_leaving limit a ws seen ≤ a + i
-  unfolding first_leaving
-  first_least [] a seen i l = absurd (not-suc-le-zero l.inside)
-  first_least (w ∷ ws) a seen i l = by_test (in_lowest seen && passes limit a w) refl i l (first_least ws (suc a) (seen / 2))
-    where
-      rest : ℕ
-      rest = first_leaving limit (suc a) ws (seen / 2)
-
-      by_test : (b : Bool) → (in_lowest seen && passes limit a w) ≡ b → (i : ℕ) → Leaver a (w ∷ ws) seen i
-          → ((j : ℕ) → Leaver (suc a) ws (seen / 2) j → rest ≤ suc a + j) → cond b a rest ≤ a + i
-      by_test true e i l later = omega arith
-      by_test false e zero l later =
-          absurd (false≢true (sym e ∙ ap₂ ◌&&◌ l.stood_on (subst (λ (k : ℕ). passes limit k w ≡ true) (add-zero a) l.passing)))
-      by_test false e (suc i) l later = let h = later i (nearer a w ws seen i l) in omega (arith, h)
-
-module _ (program : List ℕ) (seen : ℕ) where
-  pub lowest_leaves : lowest_leaving program seen < length program
-      → (has seen (lowest_leaving program seen) ≡ true)
-      × (passes (length program) (lowest_leaving program seen) (get_or program (lowest_leaving program seen) 0) ≡ true)
-  lowest_leaves h =
-      let (i, place, l) = first_leaves (length program) program 0 seen (subst (λ (n : ℕ). lowest_leaving program seen < n) (sym (zero-add (length program))) h) in
-      let here : i ≡ lowest_leaving program seen = sym (zero-add i) ∙ sym place in
-      subst (λ (k : ℕ). (has seen k ≡ true) × (passes (length program) k (get_or program k 0) ≡ true)) here
-      (l.stood_on, subst (λ (k : ℕ). passes (length program) k (get_or program i 0) ≡ true) (zero-add i) l.passing)
-
-  pub none_lower : (c : ℕ) → c < length program → has seen c ≡ true → passes (length program) c (get_or program c 0) ≡ true → lowest_leaving program seen ≤ c
-  none_lower c inside stood_on passing =
-      let l : Leaver (length program) 0 program seen c =
-      record {
-        inside = inside;
-        stood_on = stood_on;
-        passing = subst (λ (k : ℕ). passes (length program) k (get_or program c 0) ≡ true) (sym (zero-add c)) passing;
-      } in
-      subst (λ (k : ℕ). lowest_leaving program seen ≤ k) (zero-add c) (first_least (length program) program 0 seen c l)
+      passed_over c l (fails_before_first leaves places c (0, 0) (omega (arith, all, inside, length-enumerate_from 0 program)))

@@ -1,6 +1,6 @@
 -- The set of next addresses is exactly what a word can lead to; and a word has a possible next address outside exactly if one of its two
 -- extremes is outside.
-use Prim.Native.Nat.{ℕ, suc, ◌+◌, ◌-◌, ◌%◌, ◌^◌, ◌<◌, ◌≤◌}
+use Prim.Native.Nat.{ℕ, ◌+◌, ◌-◌, ◌%◌, ◌^◌, ◌<◌, ◌≤◌}
 use native.Mathlib.Omega.{arith}
 use mathlib.Core.Path.{◌≡◌, refl, sym, ap, subst, ◌∙◌}
 use mathlib.Core.Bool.{Bool, true, false, cond, ◌&&◌, ◌||◌}
@@ -13,9 +13,10 @@ use Rattle.control_store.specs.Microword.{fields}
 use Rattle.control_store.specs.Codes.{step, jmp, jop, jint, jsm}
 use Rattle.control_store.specs.Sequencer.{add_bt6, mpc_unit}
 use Rattle.control_store.proofs.SixBits.{next_lt}
+use Rattle.check_meaning.specs.declared.AddressSet.{AddressSet}
 use Rattle.check_meaning.specs.Walks.{next_of, Leads}
-use Rattle.check_meaning.specs.Survey.{extreme, alone, opcode_words, union, next_set, passes}
-use Rattle.check_meaning.proofs.Sets.{has, has_union, has_alone, has_opcode_words, in_opcode_words}
+use Rattle.check_meaning.specs.Survey.{has, extreme, alone, opcode_words, union, next_set, passes}
+use Rattle.check_meaning.proofs.Sets.{has_union, has_alone, has_opcode_words, in_opcode_words}
 
 module _ (a w : ℕ) where
   -- MPC_UNIT's choice, by its five tests of the code, then by what the two conditional jumps ask for
@@ -62,7 +63,7 @@ module _ (a w : ℕ) where
   by_jop opcode ireq ie sm e = rw e
 
   -- ---- members of the set
-  two : ℕ
+  two : AddressSet
   two = union (alone (extreme a w false)) (alone (extreme a w true))
 
   in_two : (b : ℕ) → has two b ≡ (eqb b (extreme a w false) || eqb b (extreme a w true))
@@ -71,7 +72,7 @@ module _ (a w : ℕ) where
       has_union (alone (extreme a w false)) (alone (extreme a w true)) b
       ∙ rw (has_alone (extreme a w false) b (extreme_lt false), has_alone (extreme a w true) b (extreme_lt true))
 
-  abbrev chosen : Bool → ℕ
+  abbrev chosen : Bool → AddressSet
   chosen by_opcode = cond by_opcode opcode_words two
 
   next_set_is : next_set a w ≡ chosen (eqb (fields w).cond jop)
@@ -97,7 +98,7 @@ module _ (a w : ℕ) where
       }
 
   pub in_leads : (b : ℕ) → has (next_set a w) b ≡ true → Leads a w b
-  in_leads b t = by_code (eqb (fields w).cond jop) (eqb-true (fields w).cond jop) (sym (ap (λ (set : ℕ). has set b) next_set_is) ∙ t)
+  in_leads b t = by_code (eqb (fields w).cond jop) (eqb-true (fields w).cond jop) (sym (ap (λ (set : AddressSet). has set b) next_set_is) ∙ t)
     where
       by_code : (o : Bool) → (o ≡ true → (fields w).cond ≡ jop) → has (chosen o) b ≡ true → Leads a w b
       by_code true f t = opcode_leads b (f refl) t
@@ -105,13 +106,13 @@ module _ (a w : ℕ) where
 
   opcode_in : (opcode : ℕ) → opcode < 2 ^ 5 → has opcode_words (add_bt6 opcode 4) ≡ true
   unfolding add_bt6
-  opcode_in opcode h = ap (has opcode_words) four_up ∙ has_opcode_words opcode h
+  opcode_in opcode h = ap (has opcode_words) four_up ∙ has_opcode_words (opcode + 4) (omega arith) (omega arith)
     where
-      four_up : (opcode + 4) % 2 ^ 6 ≡ suc (suc (suc (suc opcode)))
+      four_up : (opcode + 4) % 2 ^ 6 ≡ opcode + 4
       four_up = omega arith
 
   pub leads_in : (b : ℕ) → Leads a w b → has (next_set a w) b ≡ true
-  leads_in b l = ap (λ (set : ℕ). has set b) next_set_is ∙ by_code (eqb (fields w).cond jop) refl
+  leads_in b l = ap (λ (set : AddressSet). has set b) next_set_is ∙ by_code (eqb (fields w).cond jop) refl
     where
       by_way : eqb (fields w).cond jop ≡ false
           → ExtremeOrOpcode l.opcode (next_of a w l.opcode l.ireq l.ie l.sm) (extreme a w false) (extreme a w true) → has two b ≡ true

@@ -8,14 +8,13 @@ use Rattle.control_store.specs.ControlStore.{legal_store_length, store_test}
 use Rattle.control_store.specs.Sequencer.{add_bt6, mpc_unit}
 use Rattle.published.specs.Assembler.{packed}
 use Rattle.published.specs.Listing.{listing, published}
-use Rattle.check_meaning.specs.declared.Checked.{Checked}
-use Rattle.check_meaning.specs.Meaning.{acceptance, Meant}
-use Rattle.check_meaning.specs.Survey.{alone, union, next_set, spread, advance, survey, passes, first_leaving, verdict}
+use Rattle.check_meaning.specs.Meaning.{Checked, acceptance, Meant}
+use Rattle.check_meaning.specs.Survey.{alone, union, without_fetch, next_set, spread, advance, survey, passes, lowest_leaving, judged, verdict}
 use Rattle.check_meaning.proofs.OneAnswerFits.{one_answer_fits}
 use Rattle.check_meaning.proofs.Verdicts.{verdict_meant}
 
 computed : verdict published ≡ acceptance 7
-unfolding verdict store_test legal_store_length first_place legal_microword published listing packed field bit mpc_unit add_bt6 alone union next_set spread advance survey passes first_leaving
+unfolding verdict store_test legal_store_length first_place legal_microword published listing packed field bit mpc_unit add_bt6 alone union without_fetch next_set spread advance survey passes lowest_leaving judged
 computed = refl
 
 pub published_accepted : Meant published (acceptance 7)

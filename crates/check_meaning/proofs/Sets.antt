@@ -1,107 +1,115 @@
--- Sets of addresses as numbers: what is in a union, in a set of one, among the opcodes' words; the lowest member; and a union with
+-- Sets of addresses: what is in a union, in a set of one, among the opcodes' words, beside fetch; the lowest member; and a union with
 -- something new has more members.
-use Prim.Native.Nat.{ℕ, zero, suc, ◌+◌, ◌-◌, ◌/◌, ◌%◌, ◌^◌, ◌<◌, ◌≤◌}
-use native.Mathlib.Nat.{mod-lt, pow-suc, not-suc-le-zero, le_of_suc-le-suc}
+use Prim.Native.Nat.{ℕ, zero, suc, ◌+◌, ◌-◌, ◌*◌, ◌/◌, ◌%◌, ◌^◌, ◌<◌, ◌≤◌}
+use native.Mathlib.Nat.{mod-lt, pow-suc}
 use native.Mathlib.Omega.{arith}
 use mathlib.Core.Path.{◌≡◌, refl, sym, ap, ap₂, ◌∙◌}
-use mathlib.Core.Bool.{Bool, true, false, false≢true, ◌||◌}
-use mathlib.Core.Logic.{◌⊎◌, inl, inr}
-use lib.Dec.{eqb, eqb-zero-suc, eqb-suc-zero, eqb-suc-suc}
+use mathlib.Core.Bool.{Bool, true, false, cond, ◌||◌}
+use mathlib.Core.Logic.{◌⊎◌, inl, inr, ⊎_elim}
+use lib.Dec.{eqb}
 use lib.Bits.{bit_or, or_shr, or_mod, or_lt}
-use lib.Count.{ones, ones_step, under, count_trailing_zeros}
+use lib.Count.{ones, ones_step, count_trailing_zeros}
 use lib.Pow.{pow_pos, pow-lt}
-use Rattle.words.proofs.BitByBit.{digit, or_digits}
-use Rattle.check_meaning.specs.Survey.{alone, opcode_words, union, in_lowest}
+use borrow.Author.Tests.{eqb-true, eqb-false}
+use Rattle.std.specs.Prelude.{Some, None}
+use Rattle.std.specs.Int.{w64, bit_at}
+use Rattle.std.proofs.lemmas.Nat.Bits.{bit_at-zero, bit_at-suc, bit_at_above, bit_at_mask_inside, bit_at_mask_above, bit_at_mask_below, bit_at-trailing_zeros}
+use Rattle.words.specs.Words.{bit}
+use Rattle.words.proofs.BitByBit.{digit, bit_of_or, bit_of_power}
+use Rattle.words.proofs.Cases.{lt_or_le}
+use Rattle.check_meaning.specs.declared.AddressSet.{AddressSet}
+use Rattle.check_meaning.specs.Survey.{of_bits, nowhere, has, is_empty, alone, union, without_fetch, lowest, opcode_words}
 
--- the address `a` is in the set
-abbrev pub has : ℕ → ℕ → Bool
-has set zero = in_lowest set
-has set (suc a) = has (set / 2) a
+-- ---- by digits
+bit_is : (n place : ℕ) {d : ℕ} → bit_at n place ≡ d → bit n place ≡ eqb d 1
+unfolding bit
+bit_is n place e = ap (λ (d : ℕ). eqb d 1) e
 
-pub has_union : (x y a : ℕ) → has (union x y) a ≡ (has x a || has y a)
+set_bit : (n place : ℕ) → bit n place ≡ true → bit_at n place ≡ 1
+unfolding bit
+set_bit n place t = eqb-true (bit_at n place) 1 t
+
+not_both : (n place : ℕ) → bit_at n place ≡ 0 → bit n place ≡ true → ⊥
+not_both n place e t = absurd (omega (arith, e, set_bit n place t))
+
+-- no address of 64 or more is in a set of 64 bits
+pub beyond : (bits place : ℕ) → bits < 2 ^ 64 → 64 ≤ place → bit bits place ≡ false
+beyond bits place h l = bit_is bits place (bit_at_above bits 64 place h l)
+
+-- ---- what is in a set
+pub has_none : (a : ℕ) → has nowhere a ≡ false
+has_none a = bit_is 0 a (bit_at-zero a)
+
+pub has_union : (x y : AddressSet) (a : ℕ) → has (union x y) a ≡ (has x a || has y a)
 unfolding union
-has_union x y zero = ap (λ (d : ℕ). eqb d 1) (or_mod x y 1) ∙ or_digits x y
-has_union x y (suc a) = ap (λ (set : ℕ). has set a) (or_shr x y 1) ∙ has_union (x / 2) (y / 2) a
-
-pub has_none : (a : ℕ) → has 0 a ≡ false
-has_none zero = refl
-has_none (suc a) = has_none a
-
-double : (n : ℕ) → (2 ^ suc n / 2 ≡ 2 ^ n) × (2 ^ suc n % 2 ≡ 0)
-double n = let e = pow-suc 2 n in (omega (arith, e), omega (arith, e))
-
-has_power : (n a : ℕ) → has (2 ^ n) a ≡ eqb a n
-has_power zero zero = refl
-has_power zero (suc a) = has_none a ∙ sym (eqb-suc-zero a)
-has_power (suc n) zero = ap (λ (d : ℕ). eqb d 1) (double n).1 ∙ sym (eqb-zero-suc n)
-has_power (suc n) (suc a) = ap (λ (set : ℕ). has set a) (double n).0 ∙ has_power n a ∙ sym (eqb-suc-suc a n)
+has_union x y a = bit_of_or x.bits y.bits a
 
 pub has_alone : (n a : ℕ) → n < 2 ^ 6 → has (alone n) a ≡ eqb a n
 unfolding alone
-has_alone n a h = ap (λ (k : ℕ). has (2 ^ k) a) (omega arith) ∙ has_power n a
+has_alone n a h = ap (λ (k : ℕ). bit (2 ^ k) a) (omega arith) ∙ bit_of_power n a
 
--- ---- the opcodes' words
-half_ones : (n : ℕ) → ((2 ^ suc n - 1) / 2 ≡ 2 ^ n - 1) × ((2 ^ suc n - 1) % 2 ≡ 1)
-half_ones n = let e = pow-suc 2 n in let p = pow_pos n in (omega (arith, e, p), omega (arith, e, p))
-
-has_ones : (n a : ℕ) → a < n → has (2 ^ n - 1) a ≡ true
-has_ones zero a h = absurd (not-suc-le-zero h)
-has_ones (suc n) zero h = ap (λ (d : ℕ). eqb d 1) (half_ones n).1
-has_ones (suc n) (suc a) h = ap (λ (set : ℕ). has set a) (half_ones n).0 ∙ has_ones n a (le_of_suc-le-suc h)
-
-in_ones : (n a : ℕ) → has (2 ^ n - 1) a ≡ true → a < n
-in_ones zero a t = absurd (false≢true (sym (has_none a) ∙ t))
-in_ones (suc n) zero t = omega arith
-in_ones (suc n) (suc a) t = let h = in_ones n a (sym (ap (λ (set : ℕ). has set a) (half_ones n).0) ∙ t) in omega (arith, h)
-
-pub has_opcode_words : (k : ℕ) → k < 2 ^ 5 → has opcode_words (suc (suc (suc (suc k)))) ≡ true
-has_opcode_words k h = has_ones 32 k h
+pub has_opcode_words : (a : ℕ) → 4 ≤ a → a < 36 → has opcode_words a ≡ true
+has_opcode_words a l h = bit_is (2 ^ 36 - 2 ^ 4) a (bit_at_mask_inside 4 36 a l h)
 
 pub in_opcode_words : (a : ℕ) → has opcode_words a ≡ true → (4 ≤ a) × (a < 36)
-in_opcode_words zero t = absurd (false≢true t)
-in_opcode_words (suc zero) t = absurd (false≢true t)
-in_opcode_words (suc (suc zero)) t = absurd (false≢true t)
-in_opcode_words (suc (suc (suc zero))) t = absurd (false≢true t)
-in_opcode_words (suc (suc (suc (suc k)))) t = let h = in_ones 32 k t in (omega arith, omega (arith, h))
+in_opcode_words a t = (
+  ⊎_elim (λ h. absurd (not_both _ a (bit_at_mask_below 4 36 a h) t)) (λ h. h) (lt_or_le a 4),
+  ⊎_elim (λ h. h) (λ h. absurd (not_both _ a (bit_at_mask_above 4 36 a h) t)) (lt_or_le a 36),
+)
 
--- ---- the lowest member of a set of k bits
-below_half : (k : ℕ) {set : ℕ} → set < 2 ^ suc k → set / 2 < 2 ^ k
-below_half k h = let e = pow-suc 2 k in omega (arith, h, e)
-
-pub lowest_is_in : (k set : ℕ) → set < 2 ^ k → (set ≡ 0 → ⊥) → has set (count_trailing_zeros k set) ≡ true
-unfolding count_trailing_zeros
-lowest_is_in zero set h some = absurd (some (omega arith))
-lowest_is_in (suc k) set h some = by_digit (digit set) (lowest_is_in k (set / 2) (below_half k h))
+-- ---- without fetch
+pub fetch_left_out : (x : AddressSet) → has (without_fetch x) 0 ≡ false
+unfolding without_fetch
+fetch_left_out x = bit_is (x.bits / 2 * 2) 0 even
   where
-    by_digit : (set % 2 ≡ 0) ⊎ (set % 2 ≡ 1) → ((set / 2 ≡ 0 → ⊥) → has (set / 2) (count_trailing_zeros k (set / 2)) ≡ true)
-        → has set (under (set % 2) (count_trailing_zeros k (set / 2))) ≡ true
-    by_digit (inl e) rest = rw e (rest (λ z. some (omega arith)))
-    by_digit (inr e) rest = rw e (ap (λ (d : ℕ). eqb d 1) e)
+    even : bit_at (x.bits / 2 * 2) 0 ≡ 0
+    even = omega arith
 
-pub lowest_is_least : (k set a : ℕ) → has set a ≡ true → count_trailing_zeros k set ≤ a
-unfolding count_trailing_zeros
-lowest_is_least zero set a t = omega arith
-lowest_is_least (suc k) set a t = by_digit (digit set) a t (lowest_is_least k (set / 2))
+pub others_kept : (x : AddressSet) (a : ℕ) → has (without_fetch x) (suc a) ≡ has x (suc a)
+unfolding without_fetch bit
+others_kept x a = ap (λ (d : ℕ). eqb d 1) (bit_at-suc (x.bits / 2 * 2) a ∙ ap (λ (n : ℕ). bit_at n a) half ∙ sym (bit_at-suc x.bits a))
   where
-    by_digit : (set % 2 ≡ 0) ⊎ (set % 2 ≡ 1) → (a : ℕ) → has set a ≡ true → ((b : ℕ) → has (set / 2) b ≡ true → count_trailing_zeros k (set / 2) ≤ b)
-        → under (set % 2) (count_trailing_zeros k (set / 2)) ≤ a
-    by_digit (inl e) zero t rest = absurd (false≢true (sym (ap (λ (d : ℕ). eqb d 1) e) ∙ t))
-    by_digit (inl e) (suc b) t rest = let h = rest b t in rw e (omega (arith, h))
-    by_digit (inr e) a t rest = rw e (omega arith)
+    half : x.bits / 2 * 2 / 2 ≡ x.bits / 2
+    half = omega arith
+
+-- ---- the lowest member
+pub lowest_of_some : (x : AddressSet) {a : ℕ} → x.bits < 2 ^ 64 → lowest x ≡ Some a → (has x a ≡ true) × ((c : ℕ) → has x c ≡ true → a ≤ c)
+lowest_of_some x h e = by_test (is_empty x) (eqb-false x.bits 0) e
+  where
+    by_test : (b : Bool) {a : ℕ} → (b ≡ false → x.bits ≡ 0 → ⊥) → cond b None (Some (count_trailing_zeros 64 x.bits)) ≡ Some a
+        → (has x a ≡ true) × ((c : ℕ) → has x c ≡ true → a ≤ c)
+    by_test true f e = absurd cc
+    by_test false {a} f e =
+        let some : 0 < x.bits = ⊎_elim (λ k. absurd (f refl (omega arith))) (λ k. k) (lt_or_le x.bits 1) in
+        let place : count_trailing_zeros 64 x.bits ≡ a = cc in
+        let found = bit_at-trailing_zeros w64 x.bits some h in (
+          bit_is x.bits a (ap (bit_at x.bits) (sym place) ∙ found.1),
+          λ c t. ⊎_elim (λ k. absurd (not_both x.bits c (found.2 c (omega (arith, k, place))) t)) (λ k. k) (lt_or_le c a),
+        )
+
+pub lowest_of_none : (x : AddressSet) → lowest x ≡ None → x ≡ nowhere
+lowest_of_none x e = by_test (is_empty x) (eqb-true x.bits 0) e
+  where
+    by_test : (b : Bool) → (b ≡ true → x.bits ≡ 0) → cond b None (Some (count_trailing_zeros 64 x.bits)) ≡ None → x ≡ nowhere
+    by_test true f e = ap of_bits (f refl)
+    by_test false f e = absurd cc
 
 -- ---- sets of 64 bits
-pub union_lt : (x y : ℕ) → x < 2 ^ 64 → y < 2 ^ 64 → union x y < 2 ^ 64
+pub union_lt : (x y : AddressSet) → x.bits < 2 ^ 64 → y.bits < 2 ^ 64 → (union x y).bits < 2 ^ 64
 unfolding union
-union_lt x y h k = or_lt 64 x y h k
+union_lt x y h k = or_lt 64 x.bits y.bits h k
 
-pub alone_lt : (n : ℕ) → alone n < 2 ^ 64
+pub alone_lt : (n : ℕ) → (alone n).bits < 2 ^ 64
 unfolding alone
 alone_lt n = pow-lt {i = n % 2 ^ 6} {j = 64} (mod-lt n (pow_pos 6))
 
+pub without_fetch_lt : (x : AddressSet) → x.bits < 2 ^ 64 → (without_fetch x).bits < 2 ^ 64
+unfolding without_fetch
+without_fetch_lt x h = omega arith
+
 -- ---- a union with something new has more members
-lowest_of_union : (x y : ℕ) → (union x y % 2 ≡ x % 2) ⊎ ((x % 2 ≡ 0) × (union x y % 2 ≡ 1))
-unfolding union
-lowest_of_union x y = by_digits (digit x) (digit y)
+lowest_of_or : (x y : ℕ) → (bit_or x y % 2 ≡ x % 2) ⊎ ((x % 2 ≡ 0) × (bit_or x y % 2 ≡ 1))
+lowest_of_or x y = by_digits (digit x) (digit y)
   where
     by_digits : (x % 2 ≡ 0) ⊎ (x % 2 ≡ 1) → (y % 2 ≡ 0) ⊎ (y % 2 ≡ 1) → (bit_or x y % 2 ≡ x % 2) ⊎ ((x % 2 ≡ 0) × (bit_or x y % 2 ≡ 1))
     by_digits (inl e) (inl f) = inl (or_mod x y 1 ∙ rw (e, f))
@@ -109,24 +117,19 @@ lowest_of_union x y = by_digits (digit x) (digit y)
     by_digits (inr e) (inl f) = inl (or_mod x y 1 ∙ rw (e, f))
     by_digits (inr e) (inr f) = inl (or_mod x y 1 ∙ rw (e, f))
 
-half_of_union : (x y : ℕ) → union x y / 2 ≡ union (x / 2) (y / 2)
-unfolding union
-half_of_union x y = or_shr x y 1
-
-none_of_none : union 0 0 ≡ 0
-unfolding union
-none_of_none = refl
-
-pub nothing_or_more : (k x y : ℕ) → x < 2 ^ k → y < 2 ^ k → (union x y ≡ x) ⊎ (ones x < ones (union x y))
-nothing_or_more zero x y h l =
+or_same_or_more : (k x y : ℕ) → x < 2 ^ k → y < 2 ^ k → (bit_or x y ≡ x) ⊎ (ones x < ones (bit_or x y))
+or_same_or_more zero x y h l =
     let x0 : x ≡ 0 = omega arith in
     let y0 : y ≡ 0 = omega arith in
-    inl (ap₂ union x0 y0 ∙ none_of_none ∙ sym x0)
-nothing_or_more (suc k) x y h l =
-    by_halves (union x y) (half_of_union x y) (ones_step (union x y)) (lowest_of_union x y) (nothing_or_more k (x / 2) (y / 2) (below_half k h) (below_half k l))
+    inl (ap₂ bit_or x0 y0 ∙ sym x0)
+or_same_or_more (suc k) x y h l =
+    by_halves (bit_or x y) (or_shr x y 1) (ones_step (bit_or x y)) (lowest_of_or x y) (or_same_or_more k (x / 2) (y / 2) (below_half h) (below_half l))
   where
-    by_halves : (u : ℕ) → u / 2 ≡ union (x / 2) (y / 2) → ones u ≡ u % 2 + ones (u / 2) → (u % 2 ≡ x % 2) ⊎ ((x % 2 ≡ 0) × (u % 2 ≡ 1))
-        → (union (x / 2) (y / 2) ≡ x / 2) ⊎ (ones (x / 2) < ones (union (x / 2) (y / 2))) → (u ≡ x) ⊎ (ones x < ones u)
+    below_half : {n : ℕ} → n < 2 ^ suc k → n / 2 < 2 ^ k
+    below_half h = let e = pow-suc 2 k in omega (arith, h, e)
+
+    by_halves : (u : ℕ) → u / 2 ≡ bit_or (x / 2) (y / 2) → ones u ≡ u % 2 + ones (u / 2) → (u % 2 ≡ x % 2) ⊎ ((x % 2 ≡ 0) × (u % 2 ≡ 1))
+        → (bit_or (x / 2) (y / 2) ≡ x / 2) ⊎ (ones (x / 2) < ones (bit_or (x / 2) (y / 2))) → (u ≡ x) ⊎ (ones x < ones u)
     by_halves u half count (inl same) (inl old) = inl (omega (arith, half, same, old))
     by_halves u half count (inr new) (inl old) =
         let kept = ap ones (half ∙ old) in let n = ones_step x in inr (omega (arith, kept, n, count, new.0, new.1))
@@ -134,3 +137,7 @@ nothing_or_more (suc k) x y h l =
         let kept = ap ones half in let n = ones_step x in inr (omega (arith, kept, n, count, same, more))
     by_halves u half count (inr new) (inr more) =
         let kept = ap ones half in let n = ones_step x in inr (omega (arith, kept, n, count, new.0, new.1, more))
+
+pub same_or_more : (x y : AddressSet) → x.bits < 2 ^ 64 → y.bits < 2 ^ 64 → (union x y ≡ x) ⊎ (ones x.bits < ones (union x y).bits)
+unfolding union
+same_or_more x y h l = ⊎_elim (λ e. inl (ap of_bits e)) inr (or_same_or_more 64 x.bits y.bits h l)

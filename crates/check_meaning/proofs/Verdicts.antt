@@ -2,34 +2,31 @@
 use Prim.Native.Nat.{ℕ, ◌<◌, ◌≤◌}
 use native.Mathlib.Omega.{arith}
 use mathlib.Core.Path.{◌≡◌, refl, sym, subst, ◌∙◌}
-use mathlib.Core.Bool.{Bool, true, false, false≢true, cond}
+use mathlib.Core.Bool.{true, false≢true}
 use mathlib.Core.Logic.{⊎_elim}
 use mathlib.Core.List.{List}
-use lib.Count.{count_trailing_zeros}
-use lib.Dec.{eqb, ltb}
 use lib.ListN.{length, get_or}
-use borrow.Author.Tests.{ltb-true, ltb-false, eqb-true, eqb-false}
 use Rattle.words.proofs.Cases.{lt_or_le}
-use Rattle.std.specs.Prelude.{Ok, Err}
+use Rattle.std.specs.Prelude.{Option, Some, None, Ok, Err}
 use Rattle.answers.specs.declared.Refusal.TheVariants.{WalkLeaves, WalkNotBack}
-use Rattle.answers.specs.Ends.{is_done}
-use Rattle.answers.proofs.OneNumberAnEnd.{only_done_is_done}
+use Rattle.answers.specs.Ends.{End}
 use Rattle.control_store.specs.ControlStore.{store_test}
 use Rattle.control_store.specs.Sequencer.{fetch_address}
 use Rattle.control_store.proofs.StoreTest.{some_word}
+use Rattle.check_meaning.specs.declared.AddressSet.{AddressSet}
 use Rattle.check_meaning.specs.declared.Survey.{Survey}
 use Rattle.check_meaning.specs.Walks.{UnderWay, Walk}
 use Rattle.check_meaning.specs.Walks.UnderWay.{begun}
 use Rattle.check_meaning.specs.Walks.Walk.{returned}
-use Rattle.check_meaning.specs.Meaning.{most_microcycles, Exit, NoneLeaves, AllBack, Accepted, Leaving, NotBack, refusal, acceptance, Meant}
+use Rattle.check_meaning.specs.Meaning.{most_microcycles, Exit, NoneLeaves, AllBack, Accepted, Leaving, NotBack, refusal, Meant}
 use Rattle.check_meaning.specs.Meaning.Meant.{illegal, leaves, not_back, accepted}
-use Rattle.check_meaning.specs.Survey.{lowest_leaving, surveyed, judged, verdict}
-use Rattle.check_meaning.proofs.Sets.{has, has_none, lowest_is_in, lowest_is_least}
+use Rattle.check_meaning.specs.Survey.{nowhere, has, lowest, lowest_leaving, surveyed, judged, verdict}
+use Rattle.check_meaning.proofs.Sets.{has_none, lowest_of_some, lowest_of_none}
 use Rattle.check_meaning.proofs.PossibleNexts.{passes_leads, leads_passes}
 use Rattle.check_meaning.proofs.OneMicrocycle.{after}
 use Rattle.check_meaning.proofs.Standing.{standing_under_way, under_way_standing, seen_stood, stood_seen, longest_walk, none_longer, standing_lt, surveyed_is}
 use Rattle.check_meaning.proofs.ReachedEarly.{reached_early}
-use Rattle.check_meaning.proofs.LowestLeaving.{lowest_leaves, none_lower}
+use Rattle.check_meaning.proofs.LowestLeaving.{Leaver, lowest_leaves, none_leaves}
 use Rattle.check_meaning.proofs.WalksGoOn.{passed_through, comes_back}
 
 module _ (program : List ℕ) where
@@ -37,54 +34,51 @@ module _ (program : List ℕ) where
   abbrev found : Survey
   found = after program most_microcycles
 
-  abbrev lowest : ℕ
-  lowest = lowest_leaving program found.seen
-
   -- the survey goes on for as many microcycles as a walk may take
   survey_found : surveyed program ≡ found
   survey_found = surveyed_is program
 
   -- ---- 17
-  no_lower_exit : (c : ℕ) → Exit program c → lowest ≤ c
-  no_lower_exit c ((k, u), (b, next, outside)) =
+  exit_leaver : (c : ℕ) → Exit program c → Leaver program found.seen c
+  exit_leaver c ((k, u), (b, next, outside)) =
       let (j, early, v) = reached_early program u in
-      none_lower program found.seen c next.0 (stood_seen program most_microcycles j c early v)
-      (leads_passes c (get_or program c 0) (length program) b next.1 outside)
+      record {
+        inside = next.0;
+        stood_on = stood_seen program most_microcycles j c early v;
+        passing = leads_passes c (get_or program c 0) (length program) b next.1 outside;
+      }
 
-  leaving : lowest < length program → Leaving program lowest
-  leaving h =
-      let (seen, passing) = lowest_leaves program found.seen h in
-      let (j, early, u) = seen_stood program most_microcycles lowest seen in
-      let (b, leads, outside) = passes_leads lowest (get_or program lowest 0) (length program) passing in
-      record { there = ((j, u), (b, (h, leads), outside)); none_lower = no_lower_exit }
+  leaver_exit : (c : ℕ) → Leaver program found.seen c → Exit program c
+  leaver_exit c l =
+      let (j, early, u) = seen_stood program most_microcycles c l.stood_on in
+      let (b, leads, outside) = passes_leads c (get_or program c 0) (length program) l.passing in
+      ((j, u), (b, (l.inside, leads), outside))
 
-  none_leaves : length program ≤ lowest → NoneLeaves program
-  none_leaves h c (reached, (b, next, outside)) =
-      let least = no_lower_exit c (reached, (b, next, outside)) in
-      let inside = next.0 in
-      omega (arith, h, least, inside)
+  leaving : {a : ℕ} → lowest_leaving program found.seen ≡ Some a → Leaving program a
+  leaving {a} e =
+      let (l, least) = lowest_leaves program found.seen e in
+      record { there = leaver_exit a l; none_lower = λ c x. least c (exit_leaver c x) }
+
+  inside : lowest_leaving program found.seen ≡ None → NoneLeaves program
+  inside e c x = none_leaves program found.seen e c (exit_leaver c x)
 
   -- ---- 18
-  late : NoneLeaves program → (found.standing ≡ 0 → ⊥) → NotBack program (count_trailing_zeros 64 found.standing)
-  late inside some = (
-    inside,
-    record {
-      there = standing_under_way program most_microcycles _ (lowest_is_in 64 found.standing (standing_lt program most_microcycles) some);
-      none_lower = λ c u. lowest_is_least 64 found.standing c (under_way_standing program u);
-    },
-  )
+  late : NoneLeaves program → {a : ℕ} → lowest found.standing ≡ Some a → NotBack program a
+  late none {a} e =
+      let (there, least) = lowest_of_some found.standing (standing_lt program most_microcycles) e in
+      (none, record { there = standing_under_way program most_microcycles a there; none_lower = λ c u. least c (under_way_standing program u) })
 
   -- ---- accepted
-  all_back : found.standing ≡ 0 → AllBack program
+  all_back : found.standing ≡ nowhere → AllBack program
   all_back none k a u = ⊎_elim (λ h. h) (λ h. absurd (not_there (passed_through program u most_microcycles h))) (lt_or_le k most_microcycles)
     where
       not_there : (c : ℕ) × UnderWay program most_microcycles c → ⊥
-      not_there (c, v) = false≢true (sym (has_none c) ∙ subst (λ (set : ℕ). has set c ≡ true) none (under_way_standing program v))
+      not_there (c, v) = false≢true (sym (has_none c) ∙ subst (λ (set : AddressSet). has set c ≡ true) none (under_way_standing program v))
 
   in_time : AllBack program → (n : ℕ) → Walk program n → n ≤ most_microcycles
   in_time back n (returned {k} {a} u next) = back k a u
 
-  longest : fetch_address < length program → NoneLeaves program → found.standing ≡ 0 → Accepted program found.longest.count
+  longest : fetch_address < length program → NoneLeaves program → found.standing ≡ nowhere → Accepted program found.longest.count
   longest some inside none =
       let back = all_back none in
       let (n, l, w) = comes_back program inside some back begun in
@@ -98,25 +92,28 @@ module _ (program : List ℕ) where
 
   -- ---- the verdict
   judged_meant : store_test program ≡ Ok tt → Meant program (judged program found)
-  judged_meant e = by_leaving (ltb lowest (length program)) refl
+  unfolding judged
+  judged_meant e = by_leaving (lowest_leaving program found.seen) refl
     where
-      by_standing : NoneLeaves program → (b : Bool) → eqb found.standing 0 ≡ b
-          → Meant program (cond b (acceptance found.longest.count) (refusal (Err (WalkNotBack (count_trailing_zeros 64 found.standing)))))
-      by_standing inside true t = accepted e (longest (some_word program e) inside (eqb-true found.standing 0 t))
-      by_standing inside false t = not_back e (late inside (eqb-false found.standing 0 t))
+      by_standing : NoneLeaves program → (o : Option ℕ) → lowest found.standing ≡ o
+          → Meant program (elim o [ Some a ↦ refusal (WalkNotBack a) | None ↦ Ok found.longest ])
+      by_standing none (Some a) t = not_back e (late none t)
+      by_standing none None t = accepted e (longest (some_word program e) none (lowest_of_none found.standing t))
 
-      by_leaving : (b : Bool) → ltb lowest (length program) ≡ b
+      by_leaving : (o : Option ℕ) → lowest_leaving program found.seen ≡ o
           → Meant program
-          (cond b (refusal (Err (WalkLeaves lowest)))
-          (cond (eqb found.standing 0) (acceptance found.longest.count) (refusal (Err (WalkNotBack (count_trailing_zeros 64 found.standing))))))
-      by_leaving true t = leaves e (leaving (ltb-true lowest (length program) t))
-      by_leaving false t = by_standing (none_leaves (ltb-false lowest (length program) t)) (eqb found.standing 0) refl
+          (elim o [
+            | Some a ↦ refusal (WalkLeaves a)
+            | None ↦ elim (lowest found.standing) [ Some a ↦ refusal (WalkNotBack a) | None ↦ Ok found.longest ]
+          ])
+      by_leaving (Some a) t = leaves e (leaving t)
+      by_leaving None t = by_standing (inside t) (lowest found.standing) refl
 
   pub verdict_meant : Meant program (verdict program)
   unfolding verdict
-  verdict_meant = by_test (is_done (store_test program)) refl
+  verdict_meant = by_test (store_test program) refl
     where
-      by_test : (b : Bool) → is_done (store_test program) ≡ b
-          → Meant program (cond b (judged program (surveyed program)) (refusal (store_test program)))
-      by_test true t = subst (λ (s : Survey). Meant program (judged program s)) (sym survey_found) (judged_meant (only_done_is_done (store_test program) t))
-      by_test false t = illegal refl t
+      by_test : (end : End) → store_test program ≡ end
+          → Meant program (elim end [ Ok _ ↦ judged program (surveyed program) | Err e ↦ refusal e ])
+      by_test (Ok tt) t = subst (λ (s : Survey). Meant program (judged program s)) (sym survey_found) (judged_meant t)
+      by_test (Err e) t = illegal t

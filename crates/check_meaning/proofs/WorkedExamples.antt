@@ -5,15 +5,13 @@ use mathlib.Core.List.{List, [], ◌∷◌, map}
 use lib.Count.{count_trailing_zeros}
 use lib.ListN.{replicate}
 use Rattle.words.specs.Words.{field, bit}
-use Rattle.std.specs.Prelude.{Ok, Err}
 use Rattle.answers.specs.declared.Refusal.TheVariants.{ProgramLength, Microword, WalkLeaves, WalkNotBack}
 use Rattle.answers.specs.Places.{first_place}
 use Rattle.control_store.specs.Codes.{jmp, legal_microword}
 use Rattle.control_store.specs.ControlStore.{legal_store_length, store_test}
 use Rattle.control_store.specs.Sequencer.{add_bt6, mpc_unit}
-use Rattle.check_meaning.specs.declared.Checked.{Checked}
-use Rattle.check_meaning.specs.Meaning.{refusal, acceptance}
-use Rattle.check_meaning.specs.Survey.{alone, union, next_set, spread, advance, survey, passes, first_leaving, verdict}
+use Rattle.check_meaning.specs.Meaning.{Checked, refusal, acceptance}
+use Rattle.check_meaning.specs.Survey.{alone, union, without_fetch, next_set, spread, advance, survey, passes, lowest_leaving, judged, verdict}
 
 abbrev jump_to : ℕ → ℕ
 jump_to a = jmp * 2 ^ 6 + a
@@ -35,16 +33,16 @@ programs =
 abbrev answers : List Checked
 answers =
     acceptance 1
-    ∷ refusal (Err (WalkNotBack 1))
-    ∷ refusal (Err (WalkNotBack 2))
+    ∷ refusal (WalkNotBack 1)
+    ∷ refusal (WalkNotBack 2)
     ∷ acceptance 64
-    ∷ refusal (Err ProgramLength)
-    ∷ refusal (Err ProgramLength)
-    ∷ refusal (Err (Microword 0))
-    ∷ refusal (Err (Microword 1))
-    ∷ refusal (Err (WalkLeaves 0))
+    ∷ refusal ProgramLength
+    ∷ refusal ProgramLength
+    ∷ refusal (Microword 0)
+    ∷ refusal (Microword 1)
+    ∷ refusal (WalkLeaves 0)
     ∷ []
 
 pub examples_hold : map verdict programs ≡ answers
-unfolding verdict store_test legal_store_length first_place legal_microword field bit mpc_unit add_bt6 alone union next_set spread advance survey passes first_leaving count_trailing_zeros
+unfolding verdict store_test legal_store_length first_place legal_microword field bit mpc_unit add_bt6 alone union without_fetch next_set spread advance survey passes lowest_leaving judged count_trailing_zeros
 examples_hold = refl

@@ -1,13 +1,10 @@
 -- What each answer of the checker says of the walks (the scope, on the control-store checker and on numbers 4, 5, 17 and 18, in this
 -- order). Words are counted from 0. Assumes nothing.
-use Rattle.std.specs.Prelude.{ℕ, ◌<◌, ◌≤◌, ◌≡◌, false, List, length}
+use Rattle.std.specs.Prelude.{ℕ, ◌<◌, ◌≤◌, ◌≡◌, List, length, Result, Ok, Err}
 use Rattle.answers.specs.declared.Microcycles.{Microcycles}
-use Rattle.answers.specs.Ends.{End}
-use Rattle.std.specs.Prelude.{Ok, Err}
+use Rattle.answers.specs.declared.Refusal.{Refusal}
 use Rattle.answers.specs.declared.Refusal.TheVariants.{WalkLeaves, WalkNotBack}
-use Rattle.answers.specs.Ends.{is_done}
 use Rattle.control_store.specs.ControlStore.{store_test}
-use Rattle.check_meaning.specs.declared.Checked.{Checked}
 use Rattle.check_meaning.specs.Walks.{PossibleNext, UnderWay, Walk}
 
 -- the microcycles within which every walk must be back
@@ -57,15 +54,19 @@ NotBack program a = NoneLeaves program × Lowest (UnderWay program most_microcyc
 abbrev pub microcycles : ℕ → Microcycles
 microcycles n = record { count = n }
 
-abbrev pub refusal : End → Checked
-refusal end = record { end = end; longest = microcycles 0 }
+-- accepted with the longest walk, or refused; a refusal has no length
+abbrev pub Checked : Type 0
+Checked = Result Microcycles Refusal
+
+abbrev pub refusal : Refusal → Checked
+refusal e = Err e
 
 abbrev pub acceptance : ℕ → Checked
-acceptance n = record { end = Ok tt; longest = microcycles n }
+acceptance n = Ok (microcycles n)
 
 -- the answers that fit a microprogram: 4 and 5 by the test of a control store, the others by its walks
 pub data Meant (program : List ℕ) : Checked → Type 0 where
-  illegal : {end : End} → store_test program ≡ end → is_done end ≡ false → Meant program (refusal end)
-  leaves : {a : ℕ} → store_test program ≡ Ok tt → Leaving program a → Meant program (refusal (Err (WalkLeaves a)))
-  not_back : {a : ℕ} → store_test program ≡ Ok tt → NotBack program a → Meant program (refusal (Err (WalkNotBack a)))
+  illegal : {e : Refusal} → store_test program ≡ Err e → Meant program (refusal e)
+  leaves : {a : ℕ} → store_test program ≡ Ok tt → Leaving program a → Meant program (refusal (WalkLeaves a))
+  not_back : {a : ℕ} → store_test program ≡ Ok tt → NotBack program a → Meant program (refusal (WalkNotBack a))
   accepted : {n : ℕ} → store_test program ≡ Ok tt → Accepted program n → Meant program (acceptance n)

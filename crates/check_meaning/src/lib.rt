@@ -1,21 +1,88 @@
-// The walks of a microprogram: what the checker answers, and what it knows on its way. There is no
-// function here: specs/ says what is meant, proofs/ that what is found is that, and check_walks does it.
+// The walks of a microprogram: what the checker knows on its way. specs/ says what is meant, proofs/ that
+// what is found is that, and check_walks finds it.
 #![tactic(auto)]
 
-use answers::{End, Microcycles};
+ghost use Rattle.std.specs.Prelude.{◌≡◌};
+ghost use Rattle.words.specs.Words.{bit};
+ghost use Rattle.check_meaning.specs.Survey.{alone, union, has, is_empty, without_fetch, lowest};
 
-// Accepted with the longest walk, or the end that says why not.
+use answers::Microcycles;
+use control_store::MOST_MICROWORDS;
+
+// A set of addresses, which have six bits: bit `a` is set where `a` is in it.
 #[derive(Clone, Copy)]
-pub struct Checked {
-    pub end: End,
-    pub longest: Microcycles,
+pub struct AddressSet {
+    pub bits: u64,
+}
+
+// A bit of a number. Of a parameter that is a number it is known that it has 64 bits, and not of a
+// struct's field, so this is no part of `contains`.
+#[tactic(auto, using(crate::proofs::Sets::beyond), unfolding(words::specs::Words::bit))]
+fn bit(bits: u64, place: usize) -> bool
+    ensures { result ≡ bit bits place }
+{
+    place < MOST_MICROWORDS && (bits >> place) % 2 == 1
+}
+
+impl AddressSet {
+    pub const NONE: AddressSet = AddressSet { bits: 0 };
+
+    // Of an address the low six bits are read.
+    #[tactic(auto, unfolding(crate::specs::Survey::alone))]
+    pub fn only(address: u32) -> AddressSet
+        ensures { result ≡ alone address }
+    {
+        AddressSet {
+            bits: 1 << (address % MOST_MICROWORDS as u32),
+        }
+    }
+
+    #[tactic(auto, unfolding(crate::specs::Survey::union))]
+    pub fn with(self, other: AddressSet) -> AddressSet
+        ensures { result ≡ union self other }
+    {
+        AddressSet {
+            bits: self.bits | other.bits,
+        }
+    }
+
+    // Fetch is address 0.
+    #[tactic(auto, unfolding(crate::specs::Survey::without_fetch))]
+    pub fn without_fetch(self) -> AddressSet
+        ensures { result ≡ without_fetch self }
+    {
+        AddressSet {
+            bits: self.bits / 2 * 2,
+        }
+    }
+
+    pub fn contains(self, address: usize) -> bool
+        ensures { result ≡ has self address }
+    {
+        bit(self.bits, address)
+    }
+
+    pub fn is_empty(self) -> bool
+        ensures { result ≡ is_empty self }
+    {
+        self.bits == 0
+    }
+
+    pub fn lowest(self) -> Option<usize>
+        ensures { result ≡ lowest self }
+    {
+        if self.is_empty() {
+            return None;
+        }
+        Some(self.bits.trailing_zeros() as usize)
+    }
 }
 
 // What is known after some microcycles of all walks: the words on which walks now stand, those on
 // which they stood before, and the longest walk that is back.
 #[derive(Clone, Copy)]
 pub struct Survey {
-    pub standing: u64,
-    pub seen: u64,
+    pub standing: AddressSet,
+    pub seen: AddressSet,
     pub longest: Microcycles,
 }

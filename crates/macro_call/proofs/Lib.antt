@@ -1,2 +1,3 @@
--- A theorem over the definitions of specs/.
+-- Theorems over the definitions of specs/, a file each.
+pub mod StepsCases
 pub mod AsLent

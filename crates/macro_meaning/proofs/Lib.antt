@@ -1,4 +1,4 @@
--- Theorems over the definitions of specs/, a file each; macro_level's functions are proved with the first of them.
+-- Theorems over the definitions of specs/, a file each. A run's tests, its turns and its answers case by case:
 pub mod RunTests
 pub mod RunTurns
 pub mod RunCalls

@@ -34,11 +34,12 @@ module _ (words : ℕ) (s : MacroState) (requests : List ℕ) where
       go (Ok _) h behind = refl
       go (Err refusal) h behind = cc
 
-  module _ (h : is_done lent ≡ true) {place : ℕ} (f : place ≡ first_place (above most_step_request) requests) where
-    pub request_refused : place < length requests → macro_test words s requests ≡ Err (Request place)
+  module _ (h : is_done lent ≡ true) where
+    pub request_refused : first_place (above most_step_request) requests < length requests
+        → macro_test words s requests ≡ Err (Request (first_place (above most_step_request) requests))
     unfolding macro_test
-    request_refused r = rw (lent_passed h, ← f, lt-ltb place (length requests) r)
+    request_refused r = rw (lent_passed h, lt-ltb (first_place (above most_step_request) requests) (length requests) r)
 
-    pub nothing_refused : length requests ≤ place → macro_test words s requests ≡ Ok tt
+    pub nothing_refused : length requests ≤ first_place (above most_step_request) requests → macro_test words s requests ≡ Ok tt
     unfolding macro_test
-    nothing_refused r = rw (lent_passed h, ← f, le-ltb place (length requests) r)
+    nothing_refused r = rw (lent_passed h, le-ltb (first_place (above most_step_request) requests) (length requests) r)

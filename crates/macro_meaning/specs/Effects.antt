@@ -1,11 +1,10 @@
 -- What an instruction reads (Operands) and what it does (Effect). It writes at most one register, under the register rule with sm as the
 -- effect says; register 0, which is never written, stands for none. It gives PSW and PC, and stores at most one word. All values are read
 -- from the state before it. Assumes nothing.
-use Rattle.std.specs.Prelude.{ℕ, Bool, false}
+use Rattle.std.specs.Prelude.{ℕ, Bool, false, None}
 use Rattle.alu.specs.declared.AluOutput.{AluOutput}
 use Rattle.alu.specs.Alu.{sum, difference}
 use Rattle.status.specs.declared.psw.Psw.{Psw}
-use Rattle.std.specs.Prelude.{None}
 use Rattle.macro_meaning.specs.declared.Operands.{Operands}
 use Rattle.macro_meaning.specs.declared.Effect.{Effect}
 

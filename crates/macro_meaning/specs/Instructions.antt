@@ -1,7 +1,7 @@
 -- The 32 opcodes and the interrupt step: the register transfers of section 5.1.1.3 (pp. 68-75) and the formal JMP, ADD and EINT of
 -- section 5.2.6 (pp. 130-136), in the source's order. A part of the state that a comment line does not name is kept. Of the operands,
 -- `a`, `b`, `d` and `ssp` are the values R[a], R[b], R[d] and R[ssp], and `dest` is the destination's number. Assumes nothing.
-use Rattle.std.specs.Prelude.{ℕ, Bool, true, false, cond, List, eqb}
+use Rattle.std.specs.Prelude.{ℕ, Bool, true, false, cond, List, eqb, None}
 use Rattle.std.specs.Int.Bits.{bit_and}
 use Rattle.words.specs.Words.{msb, lsb}
 use Rattle.words.specs.Shifter.{shl, shr, asr}
@@ -10,9 +10,7 @@ use Rattle.alu.specs.declared.AluOutput.{AluOutput}
 use Rattle.alu.specs.Alu.{add_without_carry, add_with_carry, sub_without_carry, sub_with_carry, bitwise_and, bitwise_or, bitwise_xor, bitwise_not}
 use Rattle.status.specs.Psw.{mk_psw, get_psw}
 use Rattle.status.specs.Jump.{jump_cond}
-use Rattle.std.specs.Prelude.{None}
-use Rattle.blocks.specs.Memory.{storing}
-use Rattle.blocks.specs.Memory.{fetch}
+use Rattle.blocks.specs.Memory.{storing, fetch}
 use Rattle.macro_meaning.specs.declared.Operands.{Operands}
 use Rattle.macro_meaning.specs.declared.Effect.{Effect}
 use Rattle.macro_meaning.specs.Effects.{add, inc, dec, goes, put, mode, zcnv, zn, carry}

@@ -3,7 +3,6 @@
 -- ends at fetch, the macro call from the same state is done too, with as many steps as the other has returns, the same registers, PSW,
 -- PC and vector, and the same memory. A memory length or a register 0 that one refuses the other refuses with the same number.
 use Prim.Native.Nat.{ℕ, suc, ◌<◌}
-use native.Mathlib.Nat.{le_refl}
 use native.Mathlib.Omega.{arith}
 use mathlib.Core.Path.{◌≡◌, refl, sym, ap, subst, ◌∙◌}
 use mathlib.Core.Bool.{Bool, true, false, not, cond}
@@ -14,10 +13,9 @@ use borrow.Author.Tests.{eq-eqb}
 use Rattle.words.specs.Registers.{register}
 use Rattle.answers.specs.declared.Steps.{Steps}
 use Rattle.answers.specs.declared.Refusal.{Refusal}
-use Rattle.answers.specs.Ends.{End}
+use Rattle.answers.specs.Ends.{End, is_done}
 use Rattle.std.specs.Prelude.{Result, Ok, Err}
 use Rattle.std.specs.Result.{result_and}
-use Rattle.answers.specs.Ends.{is_done}
 use Rattle.answers.specs.Places.{above, first_place}
 use Rattle.answers.specs.Tests.{lent_test}
 use Rattle.control_store.specs.Sequencer.{fetch_address}
@@ -101,7 +99,7 @@ module _ (mem : List ℕ) (s : MicroState) (requests : List ℕ) where
     macro_is : macro ≡ macro_done (length steps_heard) (steps_of (shows mem (micro_unpacked s)) steps_heard)
     macro_is =
         macro_ran mem (macro_seen s) steps_heard
-        (nothing_refused (length mem) (macro_seen s) steps_heard good (sym (all_lines requests mem (micro_unpacked s))) (le_refl (length steps_heard)))
+        (nothing_refused (length mem) (macro_seen s) steps_heard good (omega (arith, all_lines requests mem (micro_unpacked s))))
 
     module _ (good_requests : first_place bad_request requests ≡ length requests) (at_first : s.mpc ≡ fetch_address) where
       tests : Fine (length mem) published s requests
