@@ -4,7 +4,6 @@
 #![tactic(auto)]
 
 use alu::{AluOutput, Flags};
-use image_meaning::Line;
 use status::psw::{Change, Psw, PswLines};
 use std::io;
 use std::io::Print;
@@ -14,20 +13,8 @@ fn main(rt: HostRuntime) -> io::Result<()> {
     writes(&rt)?;
     word_in_user_mode(&rt)?;
     sums(&rt)?;
-    record_sum(&rt, b"record :0400000000000010EC:", b":0400000000000010EC")?;
+    record_sum(&rt)?;
     lengths(&rt)
-}
-
-fn label(out: &impl Print, text: &[u8]) -> io::Result<()> {
-    out.write_all(text)
-}
-
-fn decimal(out: &impl Print, n: u32) -> io::Result<()> {
-    print!(out; " {n}")
-}
-
-fn end_line(out: &impl Print) -> io::Result<()> {
-    label(out, b"\n")
 }
 
 // A PSW in user mode with interrupts off.
@@ -42,69 +29,37 @@ fn user(v: bool, n: bool, c: bool, z: bool) -> Psw {
     }
 }
 
-fn jump(out: &impl Print, text: &[u8], field: u32, psw: Psw) -> io::Result<()> {
-    label(out, text)?;
-    decimal(out, status::jump::decide(field, psw) as u32)?;
-    end_line(out)
-}
-
 fn jumps(out: &impl Print) -> io::Result<()> {
     let clear = user(false, false, false, false);
     let carry = user(false, false, true, false);
-    jump(out, b"code 0 with c:", 0, carry)?;
-    jump(out, b"code 1 with c:", 1, carry)?;
-    jump(out, b"code 8 with c:", 8, carry)?;
-    jump(out, b"code 8 with c z:", 8, user(false, false, true, true))?;
-    jump(
-        out,
-        b"code 10 with n v:",
-        10,
-        user(true, true, false, false),
-    )?;
-    jump(out, b"code 12 with all clear:", 12, clear)?;
-    jump(out, b"field 15 with all clear:", 15, clear)?;
-    jump(out, b"field 16 with all clear:", 16, clear)
-}
-
-fn write(out: &impl Print, text: &[u8], sm: bool, n: u32) -> io::Result<()> {
-    let after = words::registers::update(sm, n, [0; 32], 5);
-    label(out, text)?;
-    if n < 32 {
-        decimal(out, after[n as usize])?;
+    let rows = [
+        ("code 0 with c", 0, carry),
+        ("code 1 with c", 1, carry),
+        ("code 8 with c", 8, carry),
+        ("code 8 with c z", 8, user(false, false, true, true)),
+        ("code 10 with n v", 10, user(true, true, false, false)),
+        ("code 12 with all clear", 12, clear),
+        ("field 15 with all clear", 15, clear),
+        ("field 16 with all clear", 16, clear),
+    ];
+    for (name, field, psw) in rows {
+        let taken = u32::from(status::jump::decide(field, psw));
+        println!(out; "{name}: {taken}")?;
     }
-    end_line(out)
+    Ok(())
 }
 
 fn writes(out: &impl Print) -> io::Result<()> {
-    write(out, b"register 7 after writing 5 in user mode:", false, 7)?;
-    write(out, b"register 8 after writing 5 in user mode:", false, 8)?;
-    write(
-        out,
-        b"register 0 after writing 5 in supervisor mode:",
-        true,
-        0,
-    )
-}
-
-fn word_in_user_mode(out: &impl Print) -> io::Result<()> {
-    let lines = PswLines {
-        set: true,
-        clock: false,
-        sm: Change {
-            set: true,
-            clear: false,
-        },
-        ie: Change {
-            set: true,
-            clear: false,
-        },
-        load: flags(true),
-        flags: flags(false),
-    };
-    let after = status::psw::next(lines, 0b110000, user(true, true, true, true));
-    label(out, b"psw 15 after writing 48 in user mode, clock low:")?;
-    decimal(out, status::psw::to_word(after))?;
-    end_line(out)
+    for (mode, sm, n) in [
+        ("user", false, 7),
+        ("user", false, 8),
+        ("supervisor", true, 0),
+    ] {
+        let registers = words::registers::update(sm, n, [0; 32], 5);
+        let after = registers[n as usize];
+        println!(out; "register {n} after writing 5 in {mode} mode: {after}")?;
+    }
+    Ok(())
 }
 
 fn flags(all: bool) -> Flags {
@@ -116,56 +71,52 @@ fn flags(all: bool) -> Flags {
     }
 }
 
-fn sum(out: &impl Print, text: &[u8], output: AluOutput) -> io::Result<()> {
-    let status = output.flags;
-    label(out, text)?;
-    print!(out; " {:08x}", output.value)?;
-    decimal(out, status.v as u32)?;
-    decimal(out, status.n as u32)?;
-    decimal(out, status.c as u32)?;
-    decimal(out, status.z as u32)?;
-    end_line(out)
+fn word_in_user_mode(out: &impl Print) -> io::Result<()> {
+    let set = Change {
+        set: true,
+        clear: false,
+    };
+    let lines = PswLines {
+        set: true,
+        clock: false,
+        sm: set,
+        ie: set,
+        load: flags(true),
+        flags: flags(false),
+    };
+    let after = u32::from(status::psw::next(lines, 48, user(true, true, true, true)));
+    println!(out; "psw 15 after writing 48 in user mode, clock low: {after}")
 }
 
 fn sums(out: &impl Print) -> io::Result<()> {
-    sum(
-        out,
-        b"ffffffff + 1:",
-        alu::compute(0, 0xffff_ffff, 1, false),
-    )?;
-    sum(
-        out,
-        b"7fffffff + 1:",
-        alu::compute(0, 0x7fff_ffff, 1, false),
-    )?;
-    sum(out, b"0 - 1:", alu::compute(3, 0, 1, false))
+    let rows = [
+        ("ffffffff + 1", alu::compute(0, 0xffff_ffff, 1, false)),
+        ("7fffffff + 1", alu::compute(0, 0x7fff_ffff, 1, false)),
+        ("0 - 1", alu::compute(3, 0, 1, false)),
+    ];
+    for (name, AluOutput { value, flags }) in rows {
+        let [v, n, c, z] = [flags.v, flags.n, flags.c, flags.z].map(u32::from);
+        println!(out; "{name}: {value:08x} {v} {n} {c} {z}")?;
+    }
+    Ok(())
 }
 
 // The sum of a record modulo 256.
-fn record_sum(out: &impl Print, text: &[u8], line: &[u8]) -> io::Result<()> {
-    label(out, text)?;
-    match image_records::record(line) {
-        Line::NoRecord => label(out, b" no record")?,
-        Line::Record {
-            count: _,
-            address: _,
-            kind: _,
-            sum,
-        } => decimal(out, sum as u32)?,
+fn record_sum(out: &impl Print) -> io::Result<()> {
+    let line = ":0400000000000010EC";
+    match image_records::record(line.as_bytes()) {
+        Some(said) => {
+            let sum = said.sum;
+            println!(out; "record {line}: {sum}")
+        }
+        None => println!(out; "record {line}: no record"),
     }
-    end_line(out)
-}
-
-fn length(out: &impl Print, text: &[u8], words: usize) -> io::Result<()> {
-    label(out, text)?;
-    decimal(out, words::lengths::legal(words) as u32)?;
-    end_line(out)
 }
 
 fn lengths(out: &impl Print) -> io::Result<()> {
-    length(out, b"a memory of 8 words:", 8)?;
-    length(out, b"a memory of 16 words:", 16)?;
-    length(out, b"a memory of 24 words:", 24)?;
-    length(out, b"a memory of 16384 words:", 16_384)?;
-    length(out, b"a memory of 32768 words:", 32_768)
+    for words in [8, 16, 24, 16_384, 32_768] {
+        let legal = u32::from(words::lengths::legal(words));
+        println!(out; "a memory of {words} words: {legal}")?;
+    }
+    Ok(())
 }

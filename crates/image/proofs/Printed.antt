@@ -8,7 +8,7 @@ use lib.Count.{ones, ones_in}
 use lib.ListN.{length}
 use lib.Seq.{take_all}
 use Rattle.words.specs.Lengths.{legal_length}
-use Rattle.std.specs.Prelude.{Ok, Err}
+use Rattle.std.specs.Prelude.{Ok}
 use Rattle.image_meaning.specs.Reading.{memory_after}
 use Rattle.image_meaning.specs.Writing.{written_text, written_length, room_after}
 use Rattle.image_meaning.proofs.AsLent.{memory_keeps_its_length, room_keeps_its_length}

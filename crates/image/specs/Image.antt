@@ -2,7 +2,7 @@
 -- image of these where nothing was refused. Assumes nothing.
 use Rattle.std.specs.Prelude.{ℕ, cond, List, leb, length, replicate}
 use Rattle.answers.specs.Ends.{End}
-use Rattle.std.specs.Prelude.{Ok, Err}
+use Rattle.std.specs.Prelude.{Err}
 use Rattle.answers.specs.declared.Refusal.TheVariants.{TextLength}
 use Rattle.answers.specs.Ends.{is_done}
 use Rattle.image_meaning.specs.Reading.{read_answer, memory_after}

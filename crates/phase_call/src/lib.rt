@@ -54,6 +54,7 @@ fn latch_words(s: PhaseState) -> [u32; 4]
     [s.alatch, s.blatch, s.ireq as u32, s.iack as u32]
 }
 
+// Each place by itself, as the C interface lends it.
 #[tactic(auto, using(crate::proofs::PhaseCases::call_refused, crate::proofs::PhaseCases::phase_refused, crate::proofs::PhaseCases::phase_went))]
 pub fn phase(
     program: &[u64],

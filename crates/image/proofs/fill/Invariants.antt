@@ -2,8 +2,8 @@
 use Rattle.std.proofs.Common.{length, ◌-◌, ◌≡◌, ◌≤◌}
 use Rattle.image.proofs.fill.Given as goal
 
-abbrev pub invariant-loop-filled : goal.invariant-loop-filled
-invariant-loop-filled g l = (l.filled ≤ length l.text) × (length l.text ≡ length l.initial.text)
+abbrev pub invariant-loop-read : goal.invariant-loop-read
+invariant-loop-read g l = (l.filled ≤ length l.text) × (length l.text ≡ length l.initial.text)
 
-abbrev pub decreases-loop-filled : goal.decreases-loop-filled
-decreases-loop-filled g l = length l.initial.text - l.filled
+abbrev pub decreases-loop-read : goal.decreases-loop-read
+decreases-loop-read g l = length l.initial.text - l.filled
