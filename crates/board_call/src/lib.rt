@@ -6,9 +6,8 @@
 ghost use Rattle.std.specs.Prelude.{◌≡◌};
 ghost use Rattle.board_meaning.specs.Board.{moved_found, macro_seen, shown_on, board_microcycle, board_instruction};
 
-use answers::Microcycles;
 use board_meaning::Moved;
-use calls::{answer_of, refuse};
+use calls::answer_of;
 use macro_meaning::MacroState;
 use micro_meaning::{MicroState, Ran};
 
@@ -74,12 +73,9 @@ pub fn instruction(board: MicroState, memory: &mut [u32], request: u8) -> Moved
     ensures { moved_found result memory.new ≡ board_instruction board memory.old request }
 {
     let mut seen = macro_state(board);
-    let answer = match macro_level::run::run(memory, &mut seen, &[request]) {
-        Ok(steps) => answer_of(Ok(()), Microcycles::NONE, steps),
-        Err(refusal) => refuse(refusal),
-    };
+    let ran = macro_level::run::run(memory, &mut seen, &[request]);
     Moved {
-        answer,
+        answer: macro_call::answer(ran),
         board: board_after(board, seen),
     }
 }

@@ -33,7 +33,7 @@ fn macro_words(s: MacroState, state: &[u32; 7]) -> [u32; 7]
 }
 
 // Nothing of the micro level shows.
-fn answer(ran: Result<Steps, Refusal>) -> Answer
+pub fn answer(ran: Result<Steps, Refusal>) -> Answer
     ensures { result ≡ steps_answered ran }
 {
     match ran {
