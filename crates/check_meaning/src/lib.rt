@@ -15,8 +15,8 @@ pub struct AddressSet {
     pub bits: u64,
 }
 
-// A bit of a number. Of a parameter that is a number it is known that it has 64 bits, and not of a
-// struct's field, so this is no part of `contains`.
+// Whether a bit of a number is set; from 64 on none is. It stands apart from `contains`, since the width
+// of a number is known of a parameter and not of a struct's field.
 #[tactic(auto, using(crate::proofs::Sets::beyond), unfolding(words::specs::Words::bit))]
 fn bit(bits: u64, place: usize) -> bool
     ensures { result ≡ bit bits place }

@@ -2,7 +2,7 @@
 use Prim.Native.Nat.{ℕ, zero, suc, ◌+◌, ◌-◌, ◌<◌, ◌≤◌}
 use native.Mathlib.Numerals.{add-one}
 use native.Mathlib.Omega.{arith}
-use mathlib.Core.Path.{◌≡◌, refl, ap, ◌∙◌}
+use mathlib.Core.Path.{◌≡◌, refl}
 use mathlib.Core.Bool.{true, false}
 use mathlib.Core.List.{List}
 use lib.ListN.{length, get_or, drop}
@@ -18,24 +18,33 @@ pub spread_on : (program : List ℕ) (standing found : AddressSet) (at : ℕ) �
 unfolding spread
 spread_on program standing found at h = rw (drop-cons program at 0 h, add-one at) refl
 
--- ---- all walks, microcycle by microcycle
-module _ (program : List ℕ) (s : Survey) (done : ℕ) where
-  pub walks_on : done < rounds → is_empty s.standing ≡ false
-      → survey program (rounds - done) done s ≡ survey program (rounds - (done + 1)) (done + 1) (advance program (microcycles (done + 1)) s)
-  unfolding survey
-  walks_on l h = ap (λ (left : ℕ). survey program left done s) one_more ∙ rw h refl
-    where
-      one_more : rounds - done ≡ suc (rounds - (done + 1))
-      one_more = omega arith
+-- ---- all walks, microcycle by microcycle: what is left where the next is the microcycle `count`
+unfoldable pub from_microcycle : List ℕ → Survey → ℕ → Survey
+from_microcycle program s count = survey program (rounds + 1 - count) (count - 1) s
 
-  pub none_under_way : (left : ℕ) → is_empty s.standing ≡ true → survey program left done s ≡ s
-  unfolding survey
-  none_under_way zero h = refl
-  none_under_way (suc left) h = rw h refl
+module _ (program : List ℕ) (s : Survey) where
+  pub from_first : from_microcycle program s 1 ≡ survey program rounds 0 s
+  unfolding from_microcycle
+  from_first = refl
 
-  pub all_done : rounds ≤ done → survey program (rounds - done) done s ≡ s
+  pub walks_on : (count : ℕ) → 1 ≤ count → count ≤ rounds → is_empty s.standing ≡ false
+      → from_microcycle program s count ≡ from_microcycle program (advance program (microcycles count) s) (count + 1)
+  unfolding from_microcycle survey
+  walks_on count l h e =
+      let left : rounds + 1 - count ≡ suc (rounds + 1 - (count + 1)) = omega arith in
+      let this : count - 1 + 1 ≡ count = omega arith in
+      let next : count + 1 - 1 ≡ count = omega arith in
+      rw (left, next) (rw (e, this) refl)
+
+  none_left : (left done : ℕ) → is_empty s.standing ≡ true → survey program left done s ≡ s
   unfolding survey
-  all_done l = ap (λ (left : ℕ). survey program left done s) none
-    where
-      none : rounds - done ≡ 0
-      none = omega arith
+  none_left zero done h = refl
+  none_left (suc left) done h = rw h refl
+
+  pub none_under_way : (count : ℕ) → is_empty s.standing ≡ true → from_microcycle program s count ≡ s
+  unfolding from_microcycle
+  none_under_way count h = none_left (rounds + 1 - count) (count - 1) h
+
+  pub all_done : (count : ℕ) → rounds < count → from_microcycle program s count ≡ s
+  unfolding from_microcycle survey
+  all_done count l = let none : rounds + 1 - count ≡ 0 = omega arith in rw none refl

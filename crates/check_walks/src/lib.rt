@@ -90,7 +90,7 @@ fn advance(program: &[u64], done: Microcycles, s: Survey) -> Survey
 }
 
 // All walks together, until none is under way or 64 microcycles are done.
-#[tactic(auto, using(crate::proofs::SurveyTurns::walks_on, crate::proofs::SurveyTurns::none_under_way, crate::proofs::SurveyTurns::all_done))]
+#[tactic(auto, using(crate::proofs::SurveyTurns::from_first, crate::proofs::SurveyTurns::walks_on, crate::proofs::SurveyTurns::none_under_way, crate::proofs::SurveyTurns::all_done))]
 fn surveyed(program: &[u64]) -> Survey
     ensures { result ≡ surveyed program.now }
 {
@@ -99,11 +99,11 @@ fn surveyed(program: &[u64]) -> Survey
         seen: AddressSet::NONE,
         longest: Microcycles::NONE,
     };
-    for done in 0..ROUNDS {
+    for count in 1..=ROUNDS {
         if s.standing.is_empty() {
             return s;
         }
-        s = advance(program, Microcycles { count: done + 1 }, s);
+        s = advance(program, Microcycles { count }, s);
     }
     s
 }

@@ -1,14 +1,13 @@
 -- What the writer answers and what it leaves in the room, case by case.
-use Prim.Native.Nat.{ℕ, ◌<◌, ◌≤◌}
+use Prim.Native.Nat.{ℕ, ◌<◌}
 use mathlib.Core.Path.{◌≡◌, refl, sym, ◌∙◌}
 use mathlib.Core.Bool.{Bool, true, false, not}
 use mathlib.Core.List.{List}
 use lib.ListN.{length}
-use lib.Seq.{sets}
-use borrow.Author.Tests.{le-leb, lt-leb}
+use borrow.Author.Tests.{lt-leb}
 use Rattle.words.specs.Lengths.{legal_length}
 use Rattle.words.proofs.Cases.{turned, upright}
-use Rattle.std.specs.Prelude.{Ok, Err}
+use Rattle.std.specs.Prelude.{Err}
 use Rattle.answers.specs.declared.Refusal.TheVariants.{MemoryLength, Room}
 use Rattle.std.specs.Result.{is_ok}
 use Rattle.image_meaning.specs.Writing.{Written, written_length, write_answer, room_after}

@@ -55,8 +55,7 @@ pub fn run(
         steps,
         state: after,
     } = micro_level::run(program, memory, lent, requests);
-    let file = after.registers;
-    calls::registers_out(registers, file);
+    calls::registers_out(registers, after.registers);
     *state = state_words(after);
     answer_of(end, microcycles, steps)
 }

@@ -36,7 +36,7 @@ fn answer(s: MicroState, ran: Ran<MicroMachine>) -> MicroAnswer
         steps,
         state,
     } = ran;
-    let untouched = end.is_err() & (microcycles.count == 0);
+    let untouched = end.is_err() && microcycles.count == 0;
     Ran {
         end,
         microcycles,

@@ -1,5 +1,5 @@
 // The loop of a run: one microcycle for each request byte, with the registers in one place.
-ghost use Rattle.std.specs.Prelude.{◌≡◌, is_none, IfNone, IfSome};
+ghost use Rattle.std.specs.Prelude.{◌≡◌, true, false, MatchOption};
 ghost use Rattle.blocks.specs.Memory.{applied};
 ghost use Rattle.micro_meaning.specs.Microcycle.{microcycle, micro_store, leaves};
 ghost use Rattle.micro_meaning.specs.Performing.{machine, read_of, put};
@@ -51,10 +51,13 @@ fn advance(
     core: Core,
     request: u8,
 ) -> Option<Core>
-    ensures left { is_none result ≡ leaves program.now (machine registers.old core) request }
-    ensures as_before { IfNone result ((memory.new ≡ memory.old) × (registers.new ≡ registers.old)) }
-    ensures stored { IfSome result (λ next. memory.new ≡ applied (micro_store program.now (machine registers.old core)) memory.old) }
-    ensures done { IfSome result (λ next. machine registers.new next ≡ microcycle program.now memory.old (machine registers.old core) request) }
+    ensures { let s = machine registers.old core in
+        MatchOption result
+        ((leaves program.now s request ≡ true) × (memory.new ≡ memory.old)
+        × (registers.new ≡ registers.old))
+        (λ next. (leaves program.now s request ≡ false)
+        × (memory.new ≡ applied (micro_store program.now s) memory.old)
+        × (machine registers.new next ≡ microcycle program.now memory.old s request)) }
 {
     let word = word_at(program, core.mpc);
     let next = microcycle::next(word, core, request);

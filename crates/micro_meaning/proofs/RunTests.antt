@@ -14,6 +14,7 @@ use Rattle.answers.specs.declared.Refusal.TheVariants.{Outside, Request}
 use Rattle.answers.specs.Ends.{End, is_done}
 use Rattle.answers.specs.Places.{first_place}
 use Rattle.answers.proofs.FirstPlace.{at_most}
+use Rattle.answers.proofs.OneNumberAnEnd.{only_done_is_done}
 use Rattle.control_store.specs.ControlStore.{machine_test}
 use Rattle.micro_meaning.specs.declared.MicroState.{MicroState}
 use Rattle.micro_meaning.specs.Run.{bad_request, micro_test}
@@ -22,10 +23,6 @@ use Rattle.micro_meaning.specs.Run.{bad_request, micro_test}
 not_passed : (first second : End) → is_done first ≡ false → result_and first second ≡ first
 not_passed (Ok _) second h = absurd cc
 not_passed (Err refusal) second h = refl
-
-passed : (first second : End) → is_done first ≡ true → result_and first second ≡ second
-passed (Ok _) second h = refl
-passed (Err refusal) second h = absurd cc
 
 both_passed : (first second : End) → is_done (result_and first second) ≡ true → (is_done first ≡ true) × (is_done second ≡ true)
 both_passed (Ok _) second h = (refl, h)
@@ -49,13 +46,13 @@ module _ (words : ℕ) (program : List ℕ) (s : MicroState) (requests : List �
   module _ (h : is_done (machine_test words (register s.registers 0) program) ≡ true) where
     pub outside : length program ≤ s.mpc → micro_test words program s requests ≡ Err Outside
     unfolding micro_test
-    outside i = rw (passed lent behind h, le-ltb s.mpc (length program) i)
+    outside i = rw (only_done_is_done lent h, le-ltb s.mpc (length program) i)
 
     module _ (i : s.mpc < length program) where
       pub request_refused : first_place bad_request requests < length requests
           → micro_test words program s requests ≡ Err (Request (first_place bad_request requests))
       unfolding micro_test
-      request_refused r = rw (passed lent behind h, lt-ltb s.mpc (length program) i, lt-ltb place (length requests) r)
+      request_refused r = rw (only_done_is_done lent h, lt-ltb s.mpc (length program) i, lt-ltb place (length requests) r)
 
 -- a run whose tests pass: what they tell, and what they ask
 pub record Fine (words : ℕ) (program : List ℕ) (s : MicroState) (requests : List ℕ) : Type 0 where
@@ -81,7 +78,7 @@ pub fine_done : (words : ℕ) (program : List ℕ) (s : MicroState) (requests : 
 unfolding micro_test
 fine_done words program s requests f =
     rw (
-      passed (lent words program s requests) (behind words program s requests) f.lent,
+      only_done_is_done (lent words program s requests) f.lent,
       lt-ltb s.mpc (length program) f.inside,
       f.requests_good,
       le-ltb (length requests) (length requests) (le_refl (length requests)),
