@@ -6,8 +6,9 @@
 ghost use Rattle.std.specs.Prelude.{◌≡◌};
 ghost use Rattle.board_meaning.specs.Board.{moved_found, macro_seen, shown_on, board_microcycle, board_instruction};
 
+use answers::Microcycles;
 use board_meaning::Moved;
-use calls::answer_of;
+use calls::{answer_of, refuse};
 use macro_meaning::MacroState;
 use micro_meaning::{MicroState, Ran};
 
@@ -68,14 +69,18 @@ pub fn microcycle(board: MicroState, program: &[u64], memory: &mut [u32], reques
 }
 
 // One instruction step: a run of the macro level over one request byte.
-#[tactic(auto, unfolding(board_meaning::specs::Board::board_instruction))]
+#[tactic(auto, using(macro_meaning::proofs::RefusedRuns::handed_back_refused), unfolding(board_meaning::specs::Board::board_instruction))]
 pub fn instruction(board: MicroState, memory: &mut [u32], request: u8) -> Moved
     ensures { moved_found result memory.new ≡ board_instruction board memory.old request }
 {
-    let mut seen = macro_state(board);
-    let ran = macro_level::run::run(memory, &mut seen, &[request]);
-    Moved {
-        answer: macro_call::answer(ran),
-        board: board_after(board, seen),
+    match macro_level::run::run(memory, macro_state(board), &[request]) {
+        Ok(ran) => Moved {
+            answer: answer_of(Ok(()), Microcycles::NONE, ran.steps),
+            board: board_after(board, ran.state),
+        },
+        Err(refusal) => Moved {
+            answer: refuse(refusal),
+            board,
+        },
     }
 }

@@ -67,22 +67,23 @@ fn steps(rt: &impl Print) -> io::Result<()> {
         ("PPSW", 0),
     ];
     for (name, request) in requests {
-        if let Err(refusal) = run(&mut memory, &mut state, &[request]) {
-            println!(rt; "{name}: {refusal:?}")?;
+        match run(&mut memory, state, &[request]) {
+            Ok(ran) => state = ran.state,
+            Err(refusal) => println!(rt; "{name}: {refusal:?}")?,
         }
-        show(rt, name, &memory, &state)?;
+        show(rt, name, &memory, state)?;
     }
     Ok(())
 }
 
 // A line with the state.
-fn show(rt: &impl Print, name: &str, memory: &[u32; 16], s: &MacroState) -> io::Result<()> {
+fn show(rt: &impl Print, name: &str, memory: &[u32; 16], s: MacroState) -> io::Result<()> {
     let MacroState {
         registers,
         psw,
         pc,
         ..
-    } = *s;
+    } = s;
     print!(rt; "{name:14} pc {pc} psw {psw}")?;
     for n in [1, 8, 9, 10, 11, 12, 20] {
         print!(rt; " r{n} {}", registers[n])?;
@@ -97,7 +98,7 @@ fn show(rt: &impl Print, name: &str, memory: &[u32; 16], s: &MacroState) -> io::
 fn lengths(rt: &impl Print) -> io::Result<()> {
     let mut memory = [0u32; 16384];
     for words in [8, 16, 24, 16384] {
-        let number = match run(&mut memory[..words], &mut start(), &[]) {
+        let number = match run(&mut memory[..words], start(), &[]) {
             Ok(_) => 0,
             Err(refusal) => Numbered::from(refusal).number,
         };

@@ -4,9 +4,9 @@
 
 ghost use Rattle.std.specs.Prelude.{◌≡◌};
 ghost use Rattle.calls.specs.Lending.{found};
-ghost use Rattle.macro_call.specs.Steps.{macro_state, macro_words, steps_answered, avm_steps};
+ghost use Rattle.macro_call.specs.Steps.{macro_state, macro_words, avm_steps};
 
-use answers::{Microcycles, Refusal, Steps};
+use answers::Microcycles;
 use calls::{Answer, answer_of, refuse};
 use macro_meaning::MacroState;
 
@@ -32,17 +32,7 @@ fn macro_words(s: MacroState, state: &[u32; 7]) -> [u32; 7]
     [psw, pc, ir, mar, mbr, mpc, ivec]
 }
 
-// Nothing of the micro level shows.
-pub fn answer(ran: Result<Steps, Refusal>) -> Answer
-    ensures { result ≡ steps_answered ran }
-{
-    match ran {
-        Ok(steps) => answer_of(Ok(()), Microcycles::NONE, steps),
-        Err(refusal) => refuse(refusal),
-    }
-}
-
-#[tactic(auto, using(calls::proofs::Fitting::registers_in_whole, calls::proofs::Fitting::registers_out_whole), unfolding(crate::specs::Steps::avm_steps))]
+#[tactic(auto, using(calls::proofs::Fitting::registers_in_whole, calls::proofs::Fitting::registers_out_whole, crate::proofs::SevenWords::words_again), unfolding(crate::specs::Steps::avm_steps))]
 pub fn steps(
     memory: &mut [u32],
     registers: &mut [u32],
@@ -55,9 +45,14 @@ pub fn steps(
     if let Err(refusal) = calls::test(memory.len(), registers.len()) {
         return refuse(refusal);
     }
-    let mut seen = macro_state(calls::registers_in(registers), state);
-    let ran = macro_level::run::run(memory, &mut seen, requests);
-    calls::registers_out(registers, seen.registers);
-    *state = macro_words(seen, state);
-    answer(ran)
+    let lent = macro_state(calls::registers_in(registers), state);
+    match macro_level::run::run(memory, lent, requests) {
+        Ok(ran) => {
+            let after = ran.state;
+            calls::registers_out(registers, after.registers);
+            *state = macro_words(after, state);
+            answer_of(Ok(()), Microcycles::NONE, ran.steps)
+        }
+        Err(refusal) => refuse(refusal),
+    }
 }

@@ -1,18 +1,18 @@
 // A run: one step for each request byte.
 ghost use Rattle.std.specs.Prelude.{◌≡◌};
-ghost use Rattle.macro_meaning.specs.Run.{macro_test, steps, run};
+ghost use Rattle.macro_meaning.specs.Run.{macro_test, steps, macro_answer, run};
 
 use crate::step::step;
 use answers::{Refusal, Steps};
-use macro_meaning::{MacroMachine, MacroState};
+use macro_meaning::{MacroMachine, MacroState, Stepped};
 
 // The largest request byte: there is no reset at this level.
 const MOST_REQUEST: u8 = 1;
 
 // What a run is lent, lowest number first.
 #[tactic(auto, using(answers::proofs::FirstPlace::found, answers::proofs::FirstPlace::not_found), unfolding(macro_meaning::specs::Run::macro_test))]
-fn tested(words: usize, s: &MacroState, requests: &[u8]) -> Result<(), Refusal>
-    ensures { result ≡ macro_test words s.now requests.now }
+fn tested(words: usize, s: MacroState, requests: &[u8]) -> Result<(), Refusal>
+    ensures { result ≡ macro_test words s requests.now }
 {
     answers::tests::lent(words, s.registers[0])?;
     match answers::tests::first_above(MOST_REQUEST, requests) {
@@ -34,15 +34,16 @@ fn stepped(memory: &mut [u32], s: MacroMachine, requests: &[u8]) -> MacroMachine
 }
 
 #[tactic(auto, unfolding(macro_meaning::specs::Run::run))]
-pub fn run(memory: &mut [u32], state: &mut MacroState, requests: &[u8]) -> Result<Steps, Refusal>
-    ensures value { result ≡ (run memory.old state.old requests.now).answer }
-    ensures state_after { state.new ≡ (run memory.old state.old requests.now).state }
-    ensures memory_after { memory.new ≡ (run memory.old state.old requests.now).memory }
+pub fn run(memory: &mut [u32], s: MacroState, requests: &[u8]) -> Result<Stepped, Refusal>
+    ensures value { result ≡ macro_answer (run memory.old s requests.now) }
+    ensures memory_after { memory.new ≡ (run memory.old s requests.now).memory }
 {
-    tested(memory.len(), state, requests)?;
-    let machine = stepped(memory, MacroMachine::from(*state), requests);
-    *state = MacroState::from(machine);
-    Ok(Steps {
-        count: requests.len() as u64,
+    tested(memory.len(), s, requests)?;
+    let machine = stepped(memory, MacroMachine::from(s), requests);
+    Ok(Stepped {
+        steps: Steps {
+            count: requests.len() as u64,
+        },
+        state: MacroState::from(machine),
     })
 }

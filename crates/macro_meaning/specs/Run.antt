@@ -9,6 +9,7 @@ use Rattle.answers.specs.declared.Refusal.TheVariants.{Request}
 use Rattle.answers.specs.Ends.{End}
 use Rattle.answers.specs.Places.{above, first_place}
 use Rattle.answers.specs.Tests.{lent_test}
+use Rattle.macro_meaning.specs.declared.Stepped.{Stepped}
 use Rattle.macro_meaning.specs.Machine.{MacroState, MacroMachine, macro_unpacked, macro_packed}
 use Rattle.macro_meaning.specs.Step.{Macro, step}
 
@@ -36,6 +37,10 @@ pub record MacroCalled : Type 0 where
   pub answer : Result Steps Refusal
   pub state : MacroState
   pub memory : List ℕ
+
+-- .. as the function hands it back by value: after a refusal a caller has the state that it lent
+abbrev pub macro_answer : MacroCalled → Result Stepped Refusal
+macro_answer called = elim called.answer [ Ok steps ↦ Ok (record { steps = steps; state = called.state }) | Err refusal ↦ Err refusal ]
 
 abbrev pub macro_refused : Refusal → MacroState → List ℕ → MacroCalled
 macro_refused refusal s mem = record { answer = Err refusal; state = s; memory = mem }

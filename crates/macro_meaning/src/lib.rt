@@ -6,6 +6,7 @@
 ghost use Rattle.std.specs.Prelude.{◌≡◌};
 ghost use Rattle.macro_meaning.specs.Machine.{macro_unpacked, macro_packed};
 
+use answers::Steps;
 use blocks::memory::Store;
 use status::psw::Psw;
 
@@ -88,4 +89,11 @@ pub struct Effect {
     pub psw: Psw,
     pub pc: u32,
     pub store: Option<Store>,
+}
+
+// What a run that is not refused answers.
+#[derive(Clone, Copy)]
+pub struct Stepped {
+    pub steps: Steps,
+    pub state: MacroState,
 }
