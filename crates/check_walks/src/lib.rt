@@ -8,10 +8,9 @@ ghost use Rattle.check_meaning.specs.Survey.{nowhere, extreme, next_set, spread,
 
 use answers::{Microcycles, Refusal};
 use check_meaning::{AddressSet, Survey};
-use control_store::MOST_MICROWORDS;
-use control_store::code;
 use control_store::microword::Microword;
 use control_store::sequencer::{FETCH, next_address};
+use control_store::{MOST_MICROWORDS, code};
 
 // Walks are taken on for so many microcycles.
 const ROUNDS: u64 = 64;
