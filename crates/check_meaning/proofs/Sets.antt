@@ -117,13 +117,13 @@ lowest_of_or x y = by_digits (digit x) (digit y)
     by_digits (inr e) (inl f) = inl (or_mod x y 1 ∙ rw (e, f))
     by_digits (inr e) (inr f) = inl (or_mod x y 1 ∙ rw (e, f))
 
-or_same_or_more : (k x y : ℕ) → x < 2 ^ k → y < 2 ^ k → (bit_or x y ≡ x) ⊎ (ones x < ones (bit_or x y))
-or_same_or_more zero x y h l =
+pub nothing_or_more : (k x y : ℕ) → x < 2 ^ k → y < 2 ^ k → (bit_or x y ≡ x) ⊎ (ones x < ones (bit_or x y))
+nothing_or_more zero x y h l =
     let x0 : x ≡ 0 = omega arith in
     let y0 : y ≡ 0 = omega arith in
     inl (ap₂ bit_or x0 y0 ∙ sym x0)
-or_same_or_more (suc k) x y h l =
-    by_halves (bit_or x y) (or_shr x y 1) (ones_step (bit_or x y)) (lowest_of_or x y) (or_same_or_more k (x / 2) (y / 2) (below_half h) (below_half l))
+nothing_or_more (suc k) x y h l =
+    by_halves (bit_or x y) (or_shr x y 1) (ones_step (bit_or x y)) (lowest_of_or x y) (nothing_or_more k (x / 2) (y / 2) (below_half h) (below_half l))
   where
     below_half : {n : ℕ} → n < 2 ^ suc k → n / 2 < 2 ^ k
     below_half h = let e = pow-suc 2 k in omega (arith, h, e)
@@ -140,4 +140,4 @@ or_same_or_more (suc k) x y h l =
 
 pub same_or_more : (x y : AddressSet) → x.bits < 2 ^ 64 → y.bits < 2 ^ 64 → (union x y ≡ x) ⊎ (ones x.bits < ones (union x y).bits)
 unfolding union
-same_or_more x y h l = ⊎_elim (λ e. inl (ap of_bits e)) inr (or_same_or_more 64 x.bits y.bits h l)
+same_or_more x y h l = ⊎_elim (λ e. inl (ap of_bits e)) inr (nothing_or_more 64 x.bits y.bits h l)

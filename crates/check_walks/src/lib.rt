@@ -8,16 +8,14 @@ ghost use Rattle.check_meaning.specs.Survey.{nowhere, extreme, next_set, spread,
 
 use answers::{Microcycles, Refusal};
 use check_meaning::{AddressSet, Survey};
-use control_store::MOST_MICROWORDS;
 use control_store::microword::Microword;
 use control_store::sequencer::{FETCH, next_address};
+use control_store::{MOST_MICROWORDS, code};
 
 // Walks are taken on for so many microcycles.
 const ROUNDS: u64 = 64;
 
-// The condition code `jop` (table 5.18), and the words it can lead to, 4 to 35.
-const JOP: u32 = 2;
-
+// The words that the condition `jop` can lead to (table 5.18), 4 to 35.
 const OPCODE_WORDS: AddressSet = AddressSet {
     bits: 0xF_FFFF_FFF0,
 };
@@ -45,7 +43,7 @@ fn extreme(at: usize, word: u64, b: bool) -> u32
 fn next_set(at: usize, word: u64) -> AddressSet
     ensures { result ≡ next_set at word }
 {
-    if Microword::from(word).cond == JOP {
+    if Microword::from(word).cond == code::JOP {
         return OPCODE_WORDS;
     }
     let low = extreme(at, word, false);

@@ -14,6 +14,7 @@ pub struct Heading {
 
 impl Heading {
     pub const DATA: u16 = 0;
+
     pub const END: u16 = 1;
 }
 

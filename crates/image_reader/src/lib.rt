@@ -95,6 +95,7 @@ fn judge(words: usize, text: &[u8]) -> Result<(), Refusal>
 }
 
 // The first `count` words of a record's data, stored from word `first` on.
+// By places, and not by pieces of eight digits: it says of every line what is stored, of a short one too.
 #[tactic(auto, using(crate::proofs::LineTurns::word_stored))]
 fn store_words(memory: &mut [u32], line: &[u8], first: u32, count: u16)
     ensures { memory.new ≡ sets memory.old first (words_of count (data_of line.now)) }

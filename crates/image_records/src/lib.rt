@@ -20,7 +20,7 @@ fn either(first: bool, a: u8, b: u8) -> u8
 }
 
 // What a character counts as a hex digit; 16, which no digit does, where it is none. The definitions say
-// 16 too, and a number needs no branch.
+// 16 too. A match that answers an Option was measured: it branches by digit and reads slower than this.
 #[tactic(auto, unfolding(image_meaning::specs::Digits::digit_value))]
 fn value(c: u8) -> u8
     ensures { result ≡ digit_value c }

@@ -46,12 +46,11 @@ fn data_line(address: u16, w: u32, x: u32, y: u32, z: u32) -> [u8; 44]
     let mut line = [b'\n'; 44];
     line[0] = b':';
     let mut sum: u8 = 0;
-    for k in 0..20 {
-        let b = bytes[k];
-        let [high, low] = digits(b);
+    for (k, b) in bytes.iter().enumerate() {
+        let [high, low] = digits(*b);
         line[2 * k + 1] = high;
         line[2 * k + 2] = low;
-        sum = sum.wrapping_add(b);
+        sum = sum.wrapping_add(*b);
     }
     let [high, low] = digits(0u8.wrapping_sub(sum));
     line[41] = high;
@@ -67,6 +66,7 @@ fn put_text(memory: &[u32], room: &mut [u8])
     ensures { room.new ≡ sets room.old 0 (written_text memory.now) }
 {
     let fours = memory.len() / 4;
+    // by places: a proof knows nothing of what was written through `chunks_exact_mut`
     for i in 0..fours {
         let at = 4 * i;
         let line = data_line(

@@ -6,6 +6,6 @@ use Rattle.image_writer.proofs.data_line.Given as goal
 
 abbrev pub invariant-loop-k : goal.invariant-loop-k
 invariant-loop-k l =
-    (sets l.initial.line 1 (hex l.bytes) ≡ sets l.line (2 * l.k + 1) (hex (drop l.k l.bytes)))
-    × (sum_of l.bytes % 256 ≡ (l.sum + sum_of (drop l.k l.bytes)) % 256)
+    (sets l.initial.line 1 (hex l.b-items) ≡ sets l.line (2 * l.k + 1) (hex (drop l.k l.b-items)))
+    × (sum_of l.b-items % 256 ≡ (l.sum + sum_of (drop l.k l.b-items)) % 256)
     × (length l.line ≡ 44)
