@@ -5,6 +5,7 @@ ghost use Rattle.datapath.specs.Operation.{shifted};
 ghost use Rattle.datapath.specs.Results.{psw_lines, quiet, new_psw};
 
 use alu::{AluOutput, Flags};
+use control_store::code;
 use control_store::microword::Microword;
 use status::psw::{Change, Psw, PswLines};
 
@@ -35,7 +36,7 @@ fn lines(word: Microword, flags: Flags) -> PswLines
     ensures { result ≡ psw_lines word flags }
 {
     PswLines {
-        set: word.trgt == 2,
+        set: word.trgt == code::TO_PSW,
         clock: true,
         sm: Change {
             set: word.ssm,
@@ -62,7 +63,7 @@ fn quiet(word: Microword) -> bool
 {
     let single = word.ssm | word.csm | word.sie | word.cie;
     let flags = word.ldv | word.ldn | word.ldc | word.ldz;
-    !((word.trgt == 2) | single | flags)
+    !((word.trgt == code::TO_PSW) | single | flags)
 }
 
 // The PSW stays where no line asks for a change, which is looked at first since it is quick.

@@ -3,7 +3,7 @@
 // decision is shown as 0 or 1; an ALU output as its value in hexadecimal and then v, n, c, z.
 #![tactic(auto)]
 
-use alu::{AluOutput, Flags};
+use alu::{AluOutput, Flags, code};
 use status::psw::{Change, Psw, PswLines};
 use std::io;
 use std::io::Print;
@@ -90,9 +90,15 @@ fn word_in_user_mode(out: &impl Print) -> io::Result<()> {
 
 fn sums(out: &impl Print) -> io::Result<()> {
     let rows = [
-        ("ffffffff + 1", alu::compute(0, 0xffff_ffff, 1, false)),
-        ("7fffffff + 1", alu::compute(0, 0x7fff_ffff, 1, false)),
-        ("0 - 1", alu::compute(3, 0, 1, false)),
+        (
+            "ffffffff + 1",
+            alu::compute(code::ADD, 0xffff_ffff, 1, false),
+        ),
+        (
+            "7fffffff + 1",
+            alu::compute(code::ADD, 0x7fff_ffff, 1, false),
+        ),
+        ("0 - 1", alu::compute(code::SUBTRACT, 0, 1, false)),
     ];
     for (name, AluOutput { value, flags }) in rows {
         let [v, n, c, z] = [flags.v, flags.n, flags.c, flags.z].map(u32::from);
