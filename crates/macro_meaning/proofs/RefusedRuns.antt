@@ -25,9 +25,9 @@ refused_as_lent mem s requests = go (macro_test (length mem) s requests) _
 pub handed_back_refused : (mem : List ℕ) (s : MacroState) (requests : List ℕ) {refusal : Refusal} → macro_answer (run mem s requests) ≡ Err refusal
     → run mem s requests ≡ macro_refused refusal s mem
 unfolding run
-handed_back_refused mem s requests {refusal} = go (macro_test (length mem) s requests) _
+handed_back_refused mem s requests {refusal} = go (macro_test (length mem) s requests) _ _
   where
-    go : (test : End) (after : Macro) → macro_answer (macro_tested_first test s mem (macro_done (length requests) after)) ≡ Err refusal
-        → macro_tested_first test s mem (macro_done (length requests) after) ≡ macro_refused refusal s mem
-    go (Ok _) after e = cc
-    go (Err other) after e = cc
+    go : (test : End) (count : ℕ) (after : Macro) → macro_answer (macro_tested_first test s mem (macro_done count after)) ≡ Err refusal
+        → macro_tested_first test s mem (macro_done count after) ≡ macro_refused refusal s mem
+    go (Ok _) count after e = cc
+    go (Err other) count after e = cc

@@ -1,6 +1,6 @@
-// Instruction steps: the state that a programmer sees, with memory beside it, and what an instruction
-// reads and does. Nothing is decided here, the two forms of the state go over into one another and no
-// more: specs/ says what a step means, proofs/ what follows from it, and macro_level does it.
+// Instruction steps: the state that a programmer sees, with memory beside it, what an instruction reads
+// and does, and what a run answers. The functions here turn one form of the state into the other and
+// decide nothing: specs/ says what a step means, proofs/ what follows from it, and macro_level does it.
 #![tactic(auto)]
 
 ghost use Rattle.std.specs.Prelude.{◌≡◌};
