@@ -1,5 +1,5 @@
 // The codes of the ALU's functions, in the order of figure 5.6 (p. 99). A code stays a number: `compute`
-// takes any, and every one past these passes its first operand on, as `PASS` does.
+// takes any, and every one past these passes its first operand on.
 pub const ADD: u32 = 0;
 
 pub const ADD_WITH_CARRY: u32 = 1;
@@ -19,5 +19,3 @@ pub const XOR: u32 = 7;
 pub const OR: u32 = 8;
 
 pub const NOT: u32 = 9;
-
-pub const PASS: u32 = 10;

@@ -7,7 +7,8 @@ ghost use Rattle.answers.specs.Ends.{numbered, refusal_shown, shown};
 
 pub mod tests;
 
-// A count on the microcycle clock.
+// A count on the microcycle clock. The two clocks are two types, so that neither count can stand for the
+// other, and C has a struct for each.
 #[repr(C)]
 #[derive(Clone, Copy)]
 pub struct Microcycles {

@@ -12,7 +12,8 @@ use calls::{Answer, answer_of};
 use macro_meaning::MacroState;
 use micro_meaning::{MicroState, Ran};
 
-// What the macro level sees of a board.
+// What the macro level sees of a board. No From, here or back: both types are another crate's, and only
+// the crate of one of them could have it.
 fn macro_state(board: MicroState) -> MacroState
     ensures { result ≡ macro_seen board }
 {

@@ -6,7 +6,7 @@ ghost use Rattle.std.specs.Prelude.{◌≡◌};
 ghost use Rattle.calls.specs.Answers.{refused, answered};
 ghost use Rattle.calls.specs.Lending.{first_test, registers_in, registers_out};
 
-use answers::{Microcycles, Refusal, Steps};
+use answers::{Microcycles, Numbered, Refusal, Steps};
 
 // avm_answer of the header.
 #[repr(C)]
@@ -22,9 +22,7 @@ pub struct Answer {
 pub fn answer_of(end: Result<(), Refusal>, microcycles: Microcycles, steps: Steps) -> Answer
     ensures { result ≡ answered end microcycles steps }
 {
-    let shown = answers::shown(end);
-    let number = shown.number;
-    let at = shown.at;
+    let Numbered { number, at } = answers::shown(end);
     Answer {
         number,
         at,
@@ -56,7 +54,8 @@ pub fn test(words: usize, count: usize) -> Result<(), Refusal>
     Ok(())
 }
 
-// The registers as a value.
+// The registers as a value. Another number of them gives zeros and no Option, for the definition says so:
+// a call tests the number first, and then no zeros are seen.
 #[tactic(auto, unfolding(crate::specs::Lending::registers_in))]
 pub fn registers_in(from: &[u32]) -> [u32; 32]
     ensures { result ≡ registers_in from.now }

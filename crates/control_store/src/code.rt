@@ -39,9 +39,7 @@ pub const FROM_IR: u32 = 2;
 // ALU: the last code that a table names.
 pub const NOP: u32 = 10;
 
-// COND: how the next microword is found.
-pub const STEP: u32 = 0;
-
+// COND: how the next microword is found. Every other code steps to the one behind.
 pub const JMP: u32 = 1;
 
 pub const JOP: u32 = 2;

@@ -11,22 +11,18 @@ use status::psw::{Change, Psw, PswLines};
 
 // The result that goes onto the C bus, and the flags that the PSW may load: v, n and z are the ALU's,
 // c is the ALU's or the shifter's. It takes the codes that it reads and no microword, since a call
-// that the compiler keeps would copy all of it.
+// that the compiler keeps would copy all of it; the crate's other functions go into their callers.
 #[tactic(auto, unfolding(crate::specs::Operation::shifted))]
 pub fn operate(code: u32, shift: u32, csrc: bool, a: u32, b: u32, carry: bool) -> AluOutput
     ensures { result ≡ shifted shift csrc (alu code a b carry) }
 {
-    let out = alu::compute(code, a, b, carry);
-    let value = out.value;
-    let flags = out.flags;
+    let AluOutput { value, flags } = alu::compute(code, a, b, carry);
     let shifted = words::shifter::shift(shift, value);
     AluOutput {
         value: shifted.value,
         flags: Flags {
-            v: flags.v,
-            n: flags.n,
             c: (csrc & flags.c) | (!csrc & shifted.carry),
-            z: flags.z,
+            ..flags
         },
     }
 }
@@ -52,7 +48,7 @@ fn lines(word: Microword, flags: Flags) -> PswLines
             c: word.ldc,
             z: word.ldz,
         },
-        flags: flags,
+        flags,
     }
 }
 

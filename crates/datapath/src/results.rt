@@ -8,6 +8,7 @@ use blocks::memory::Store;
 use control_store::code;
 use control_store::microword::Microword;
 use status::psw::Psw;
+use words::registers::{SSP, is_supervisor};
 
 // The register that a target names. Where it names none that is register 0, which the machine itself never
 // writes: the number is a register's all the same, and an Option would be a second way to say it.
@@ -17,22 +18,23 @@ fn target_register(trgt: u32, dest: u32) -> u32
 {
     match trgt {
         code::TO_REG_FILE => dest,
-        code::TO_SSP => 1,
+        code::TO_SSP => SSP,
         _ => 0,
     }
 }
 
 // The register that a result is written to, by the old sm; register 0, likewise, where to none.
-#[tactic(auto, using(crate::proofs::Targets::none_written, crate::proofs::Targets::that_written))]
+#[tactic(auto, unfolding(crate::specs::Results::written_register))]
 pub fn written_register(trgt: u32, sm: bool, dest: u32) -> u32
     ensures { result ≡ written_register trgt sm dest }
 {
     let number = target_register(trgt, dest);
-    let guarded = (1 <= number) & (number <= 7) & !sm;
+    let guarded = is_supervisor(number) & !sm;
     if guarded { 0 } else { number }
 }
 
-// The register file, by the old sm.
+// The register file, by the old sm. Here and below a target comes with the destination field that it may
+// name: two numbers of a microword and of an instruction, for which a struct would be made at each call.
 #[tactic(auto, using(crate::proofs::Targets::by_the_rule))]
 pub fn registers(trgt: u32, sm: bool, dest: u32, registers: [u32; 32], res: u32) -> [u32; 32]
     ensures { result ≡ new_reg trgt sm dest registers res }
@@ -66,12 +68,10 @@ fn pc(trgt: u32, dest: u32, psw: Psw, res: u32, pc: u32) -> u32
 fn mbr(memory: &[u32], word: Microword, mar: u32, res: u32, mbr: u32) -> u32
     ensures { result ≡ new_mbr memory.now word mar res mbr }
 {
-    let rd = word.rd;
-    let take = word.mbr;
-    if rd {
+    if word.rd {
         return blocks::memory::load(memory, mar);
     }
-    choose(take, res, mbr)
+    choose(word.mbr, res, mbr)
 }
 
 // What goes to memory: the old MBR at MAR.

@@ -14,7 +14,8 @@ use image_meaning::{Heading, Reading, Record};
 use image_placing::Misfit;
 use image_records::Lines;
 
-// A data record's place, as line `number`.
+// A data record's place, as line `number`. The memory's length, the line's number and the end come one by
+// one, here and below, as the definitions have them.
 fn place_data(
     words: usize,
     number: usize,

@@ -48,7 +48,8 @@ fn byte(text: &[u8], at: usize) -> u16
     }
 }
 
-// The word of eight digits at `at`, the most significant byte first.
+// The word of eight digits at `at`, the most significant byte first. By arithmetic, since a byte that isn't
+// there counts as 256 in the definition, which `u32::from_be_bytes` can't take.
 #[tactic(auto, using(crate::proofs::WordsAt::word_at), unfolding(image_meaning::specs::Digits::word_from))]
 pub fn word(text: &[u8], at: u32) -> u32
     ensures { result ≡ word_of (drop at text.now) }

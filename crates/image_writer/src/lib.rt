@@ -66,7 +66,8 @@ fn put_text(memory: &[u32], room: &mut [u8])
     ensures { room.new ≡ sets room.old 0 (written_text memory.now) }
 {
     let fours = memory.len() / 4;
-    // by places: a proof knows nothing of what was written through `chunks_exact_mut`
+    // by places: a proof knows nothing of what was written through `chunks_exact_mut`, and the words read
+    // stand at places that go with it
     for i in 0..fours {
         let at = 4 * i;
         let line = data_line(

@@ -10,7 +10,8 @@ use answers::Microcycles;
 use calls::{Answer, answer_of};
 use macro_meaning::MacroState;
 
-// What the macro level sees of the registers and the state words.
+// What the macro level sees of the registers and the state words. No From, here or back: the order of the
+// words is C's, which the crate that owns MacroState doesn't know.
 fn macro_state(registers: [u32; 32], state: &[u32; 7]) -> MacroState
     ensures { result ≡ macro_state registers state.now }
 {

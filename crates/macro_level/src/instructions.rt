@@ -10,10 +10,8 @@ use blocks::memory::{Store, load};
 use macro_meaning::{Effect, Operands};
 use status::jump::decide;
 use status::psw::Psw;
+use words::registers::SSP;
 use words::shifter;
-
-// The number of the supervisor's stack pointer.
-pub const SSP: u32 = 1;
 
 // The interrupt step's entry in the list.
 pub const INTERRUPT_STEP: u32 = 32;

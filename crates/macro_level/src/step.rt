@@ -2,12 +2,12 @@
 ghost use Rattle.std.specs.Prelude.{◌≡◌};
 ghost use Rattle.macro_meaning.specs.Step.{operands, selected, performed, step};
 
-use crate::instructions::{INTERRUPT_STEP, SSP, perform};
+use crate::instructions::{INTERRUPT_STEP, perform};
 use blocks::memory::{apply, load};
 use macro_meaning::{Effect, MacroMachine, Operands};
 use status::psw::Psw;
 use words::instruction::Instruction;
-use words::registers::update;
+use words::registers::{SSP, update};
 
 // The registers that the word names, and the rest that an instruction reads.
 #[tactic(auto, using(words::proofs::FieldBounds::dest_lt, words::proofs::FieldBounds::srca_lt, words::proofs::FieldBounds::srcb_lt))]

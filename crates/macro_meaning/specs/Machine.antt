@@ -11,9 +11,13 @@ MacroState = MacroLevel ℕ
 abbrev pub MacroMachine : Type 0
 MacroMachine = MacroLevel Psw
 
+-- all but the PSW stays
+abbrev pub with_psw : {P Q : Type 0} → MacroLevel P → Q → MacroLevel Q
+with_psw s psw = record { registers = s.registers; psw = psw; pc = s.pc; ivec = s.ivec }
+
 -- the PSW's other bits are dropped
 abbrev pub macro_unpacked : MacroState → MacroMachine
-macro_unpacked s = record { registers = s.registers; psw = get_psw s.psw; pc = s.pc; ivec = s.ivec }
+macro_unpacked s = with_psw s (get_psw s.psw)
 
 abbrev pub macro_packed : MacroMachine → MacroState
-macro_packed m = record { registers = m.registers; psw = mk_psw m.psw; pc = m.pc; ivec = m.ivec }
+macro_packed m = with_psw m (mk_psw m.psw)

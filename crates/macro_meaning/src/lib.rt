@@ -4,7 +4,7 @@
 #![tactic(auto)]
 
 ghost use Rattle.std.specs.Prelude.{◌≡◌};
-ghost use Rattle.macro_meaning.specs.Machine.{macro_unpacked, macro_packed};
+ghost use Rattle.macro_meaning.specs.Machine.{with_psw, macro_unpacked, macro_packed};
 
 use answers::Steps;
 use blocks::memory::Store;
@@ -25,23 +25,30 @@ pub type MacroState = MacroLevel<u32>;
 // As a step sees it: the PSW is its six bits.
 pub type MacroMachine = MacroLevel<Psw>;
 
+// The same with another PSW.
+fn with_psw<P: Copy, Q>(s: MacroLevel<P>, psw: Q) -> MacroLevel<Q>
+    ensures { result ≡ with_psw s psw }
+{
+    let MacroLevel {
+        registers,
+        pc,
+        ivec,
+        ..
+    } = s;
+    MacroLevel {
+        registers,
+        psw,
+        pc,
+        ivec,
+    }
+}
+
 // The PSW's other bits are dropped.
 impl From<MacroState> for MacroMachine {
     ghost from_gives = { λ s m. m ≡ macro_unpacked s };
 
     fn from(s: MacroState) -> MacroMachine {
-        let MacroLevel {
-            registers,
-            psw,
-            pc,
-            ivec,
-        } = s;
-        MacroLevel {
-            registers,
-            psw: Psw::from(psw),
-            pc,
-            ivec,
-        }
+        with_psw(s, Psw::from(s.psw))
     }
 }
 
@@ -49,18 +56,7 @@ impl From<MacroMachine> for MacroState {
     ghost from_gives = { λ m s. s ≡ macro_packed m };
 
     fn from(m: MacroMachine) -> MacroState {
-        let MacroLevel {
-            registers,
-            psw,
-            pc,
-            ivec,
-        } = m;
-        MacroLevel {
-            registers,
-            psw: u32::from(psw),
-            pc,
-            ivec,
-        }
+        with_psw(m, u32::from(m.psw))
     }
 }
 

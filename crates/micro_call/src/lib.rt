@@ -9,7 +9,8 @@ ghost use Rattle.micro_call.specs.Runs.{micro_state, state_words, avm_run};
 use calls::{Answer, answer_of};
 use micro_meaning::{MicroState, Ran};
 
-// A state from the registers and the state words.
+// A state from the registers and the state words. No From, here or back: the order of the words is C's,
+// which the crate that owns MicroState doesn't know.
 fn micro_state(registers: [u32; 32], state: &[u32; 7]) -> MicroState
     ensures { result ≡ micro_state registers state.now }
 {

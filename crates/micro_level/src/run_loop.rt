@@ -12,6 +12,7 @@ use control_store::sequencer::FETCH;
 use control_store::word_at;
 use micro_meaning::{Core, MicroMachine, Performed, Ran, Read};
 use words::instruction::Instruction;
+use words::registers::SSP;
 
 // The registers that a microcycle may read.
 #[tactic(auto, using(words::proofs::FieldBounds::dest_lt, words::proofs::FieldBounds::srca_lt, words::proofs::FieldBounds::srcb_lt))]
@@ -28,7 +29,7 @@ fn read(registers: &[u32; 32], ir: u32) -> Read
         srca: registers[srca as usize],
         srcb: registers[srcb as usize],
         dest: registers[dest as usize],
-        ssp: registers[1],
+        ssp: registers[SSP as usize],
     }
 }
 
@@ -42,7 +43,7 @@ fn put(registers: &mut [u32; 32], number: u32, value: u32)
 }
 
 // One microcycle, on registers and memory where they stand; none where it would leave, and then nothing
-// has changed. It is the microcycle's only caller, and the loop is its own.
+// has changed. The loop is its only caller.
 #[tactic(auto, unfolding(micro_meaning::specs::Microcycle::leaves, micro_meaning::specs::Microcycle::next_address, micro_meaning::specs::Performing::next_of, micro_meaning::specs::Performing::performed, micro_meaning::specs::Microcycle::micro_store), using(micro_meaning::proofs::SameMicrocycle::same_state))]
 fn advance(
     program: &[u64],

@@ -27,7 +27,8 @@ pub struct MicroMachine {
     pub ivec: u32,
 }
 
-// The state beside the registers, which a run keeps in one place while this moves by value.
+// The state beside the registers, which a run keeps in one place while this moves by value. MicroMachine has
+// these fields and no Core in it, since what is said of a state names them, in every theorem of the level.
 #[derive(Clone, Copy)]
 pub struct Core {
     pub psw: Psw,

@@ -37,7 +37,7 @@ fn tested(words: usize, program: &[u64], s: PhaseState, request: u8) -> Result<(
 }
 
 // The phase that is next. Its number stays a number: C lends it and gets it back, and the source's
-// clock is one (GetPhaseClock, pp. 114-118). An enum would be made of it and unmade around one match.
+// clock is one (GetPhaseClock, pp. 114-118).
 #[tactic(auto, unfolding(phase_meaning::specs::Call::phase_done))]
 fn phase_done(program: &[u64], memory: &[u32], s: PhaseMachine, request: u8) -> PhaseMachine
     ensures { result ≡ phase_done program.now memory.now s request }

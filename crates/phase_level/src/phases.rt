@@ -14,6 +14,7 @@ use datapath::{operation, results};
 use phase_meaning::PhaseMachine;
 use status::psw::Psw;
 use words::instruction::Instruction;
+use words::registers::SSP;
 
 // MIR is loaded and the request latched.
 #[tactic(auto, unfolding(phase_meaning::specs::Phases::phase_one, phase_meaning::specs::Phases::interrupt, words::specs::Words::bit))]
@@ -44,7 +45,7 @@ pub fn two(s: PhaseMachine) -> PhaseMachine
     let file_a = s.registers[srca as usize];
     let file_b = s.registers[srcb as usize];
     let file_d = s.registers[dest as usize];
-    let ssp = s.registers[1];
+    let ssp = s.registers[SSP as usize];
     let psw = u32::from(s.psw);
     PhaseMachine {
         alatch: sources::a(word.srca, file_a, file_d, ssp, psw, s.pc),

@@ -1,5 +1,5 @@
-// The jump decision, by the number of the instruction's destination field. It takes any number, which no
-// enum could: the source's definition has a closing case for all above 13.
+// The jump decision, by the number of the instruction's destination field (table 5.8, p. 78, which gives
+// the codes no names). It takes any number, and the last arm says so: every field from 14 on always jumps.
 ghost use Rattle.std.specs.Prelude.{◌≡◌};
 ghost use Rattle.status.specs.Jump.{jump_cond};
 

@@ -98,13 +98,10 @@ fn clocked(lines: PswLines, psw: Psw) -> Psw
 pub fn next(lines: PswLines, word: u32, psw: Psw) -> Psw
     ensures { result ≡ next_psw lines word psw }
 {
-    let set = lines.set;
-    let sm = psw.sm;
-    let clock = lines.clock;
-    if set & sm {
+    if lines.set & psw.sm {
         return Psw::from(word);
     }
-    if clock {
+    if lines.clock {
         return clocked(lines, psw);
     }
     psw

@@ -10,6 +10,7 @@ pub const MOST_WORDS: usize = 16_384;
 pub fn legal(words: usize) -> bool
     ensures { result ≡ legal_length words }
 {
-    let single = usize::count_ones(words) == 1;
+    // one bit set: the form in which the definition has a power of two
+    let single = words.count_ones() == 1;
     single & ((FEWEST_WORDS <= words) & (words <= MOST_WORDS))
 }

@@ -4,7 +4,6 @@ use native.Mathlib.Omega.{arith}
 use mathlib.Core.Path.{◌≡◌, sym, ◌∙◌}
 use lib.ListN.{length}
 use lib.Seq.{set_out}
-use Rattle.words.specs.Registers.{is_sup_reg}
 use Rattle.words.proofs.RegisterRule.{zero_register, guarded, stored}
 use Rattle.words.proofs.registers.update.Goals as goal
 
@@ -14,22 +13,19 @@ returns-then-n-eq0 c =
     sym (zero_register args.sm args.n args.registers args.value c.if-n-eq0.true)
 
 pub returns-then-supervisor-sm : goal.returns-then-supervisor-sm
-unfolding is_sup_reg
 returns-then-supervisor-sm c =
     let args = c.args in
-    sym (guarded args.sm args.n args.registers args.value c.if-n-eq0.false c.if-supervisor-sm.true)
+    sym (guarded args.sm args.n args.registers args.value c.if-n-eq0.false (rw c.is_supervisor-supervisor.ensures at c.if-supervisor-sm.true))
 
 pub returns-then-n-ge32 : goal.returns-then-n-ge32
-unfolding is_sup_reg
 returns-then-n-ge32 c =
     let args = c.args in
     let long : length args.registers ≡ 32 = search rules in
     sym
-    (stored args.sm args.n args.registers args.value c.if-n-eq0.false c.if-supervisor-sm.false
+    (stored args.sm args.n args.registers args.value c.if-n-eq0.false (rw c.is_supervisor-supervisor.ensures at c.if-supervisor-sm.false)
     ∙ set_out args.registers args.n args.value (omega arith))
 
 pub returns : goal.returns
-unfolding is_sup_reg
 returns c =
     let args = c.args in
-    sym (stored args.sm args.n args.registers args.value c.if-n-eq0.false c.if-supervisor-sm.false)
+    sym (stored args.sm args.n args.registers args.value c.if-n-eq0.false (rw c.is_supervisor-supervisor.ensures at c.if-supervisor-sm.false))
