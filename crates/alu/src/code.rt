@@ -1,5 +1,5 @@
-// The codes of the ALU's functions, in the order of figure 5.6 (p. 99). Every code past the last but one
-// passes its first operand on, as `PASS` does.
+// The codes of the ALU's functions, in the order of figure 5.6 (p. 99). A code stays a number: `compute`
+// takes any, and every one past these passes its first operand on, as `PASS` does.
 pub const ADD: u32 = 0;
 
 pub const ADD_WITH_CARRY: u32 = 1;

@@ -8,7 +8,7 @@ ghost use Rattle.board_meaning.specs.Board.{moved_found, macro_seen, shown_on, b
 
 use answers::Microcycles;
 use board_meaning::Moved;
-use calls::{answer_of, refuse};
+use calls::{Answer, answer_of};
 use macro_meaning::MacroState;
 use micro_meaning::{MicroState, Ran};
 
@@ -79,7 +79,7 @@ pub fn instruction(board: MicroState, memory: &mut [u32], request: u8) -> Moved
             board: board_after(board, ran.state),
         },
         Err(refusal) => Moved {
-            answer: refuse(refusal),
+            answer: Answer::from(refusal),
             board,
         },
     }

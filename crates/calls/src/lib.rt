@@ -34,10 +34,12 @@ pub fn answer_of(end: Result<(), Refusal>, microcycles: Microcycles, steps: Step
 }
 
 // A refusal, before anything was done.
-pub fn refuse(refusal: Refusal) -> Answer
-    ensures { result ≡ refused refusal }
-{
-    answer_of(Err(refusal), Microcycles::NONE, Steps::NONE)
+impl From<Refusal> for Answer {
+    ghost from_gives = { λ refusal answer. answer ≡ refused refusal };
+
+    fn from(refusal: Refusal) -> Answer {
+        answer_of(Err(refusal), Microcycles::NONE, Steps::NONE)
+    }
 }
 
 // The first test that fails, where one does.

@@ -4,7 +4,7 @@
 ghost use Rattle.check_call.specs.Checks.{CheckAnswer};
 
 use answers::Steps;
-use calls::{Answer, answer_of, refuse};
+use calls::{Answer, answer_of};
 
 // Checks a microprogram without running it.
 pub fn check(program: &[u64]) -> Answer
@@ -12,6 +12,6 @@ pub fn check(program: &[u64]) -> Answer
 {
     match check_walks::check(program) {
         Ok(longest) => answer_of(Ok(()), longest, Steps::NONE),
-        Err(refusal) => refuse(refusal),
+        Err(refusal) => Answer::from(refusal),
     }
 }

@@ -1,5 +1,5 @@
-// The codes that tables 5.13 to 5.18 (pp. 120-123) name. A microword's fields stay numbers: an illegal word
-// has codes that no table names, and what it does is defined too.
+// The codes that tables 5.13 to 5.18 (pp. 120-123) name. A microword's fields and what takes them stay
+// numbers: an illegal word has codes that no table names, and what it does is defined too.
 
 // TRGT: where the result goes.
 pub const TO_REG_FILE: u32 = 0;

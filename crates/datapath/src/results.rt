@@ -9,7 +9,8 @@ use control_store::code;
 use control_store::microword::Microword;
 use status::psw::Psw;
 
-// The register that a target names; register 0, which is never written, where it names none.
+// The register that a target names. Where it names none that is register 0, which the machine itself never
+// writes: the number is a register's all the same, and an Option would be a second way to say it.
 #[tactic(auto, unfolding(crate::specs::Results::target_register))]
 fn target_register(trgt: u32, dest: u32) -> u32
     ensures { result ≡ target_register trgt dest }
@@ -21,7 +22,7 @@ fn target_register(trgt: u32, dest: u32) -> u32
     }
 }
 
-// The register that a result is written to, by the old sm; 0 where it is written to none.
+// The register that a result is written to, by the old sm; register 0, likewise, where to none.
 #[tactic(auto, using(crate::proofs::Targets::none_written, crate::proofs::Targets::that_written))]
 pub fn written_register(trgt: u32, sm: bool, dest: u32) -> u32
     ensures { result ≡ written_register trgt sm dest }

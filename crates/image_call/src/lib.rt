@@ -8,7 +8,7 @@ ghost use Rattle.image_meaning.specs.Writing.{room_after};
 ghost use Rattle.image_call.specs.Images.{avm_read, avm_write};
 
 use answers::{Microcycles, Steps};
-use calls::{Answer, answer_of, refuse};
+use calls::{Answer, answer_of};
 
 // Reads an image into memory.
 #[tactic(auto, unfolding(crate::specs::Images::avm_read))]
@@ -33,6 +33,6 @@ pub fn write(memory: &[u32], room: &mut [u8]) -> Answer
             microcycles: Microcycles::NONE,
             steps: Steps::NONE,
         },
-        Err(refusal) => refuse(refusal),
+        Err(refusal) => Answer::from(refusal),
     }
 }

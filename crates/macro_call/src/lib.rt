@@ -7,7 +7,7 @@ ghost use Rattle.calls.specs.Lending.{found};
 ghost use Rattle.macro_call.specs.Steps.{macro_state, macro_words, avm_steps};
 
 use answers::Microcycles;
-use calls::{Answer, answer_of, refuse};
+use calls::{Answer, answer_of};
 use macro_meaning::MacroState;
 
 // What the macro level sees of the registers and the state words.
@@ -43,7 +43,7 @@ pub fn steps(
         ≡ avm_steps memory.old registers.old state.old requests.now }
 {
     if let Err(refusal) = calls::test(memory.len(), registers.len()) {
-        return refuse(refusal);
+        return Answer::from(refusal);
     }
     let lent = macro_state(calls::registers_in(registers), state);
     match macro_level::run::run(memory, lent, requests) {
@@ -53,6 +53,6 @@ pub fn steps(
             *state = macro_words(after, state);
             answer_of(Ok(()), Microcycles::NONE, ran.steps)
         }
-        Err(refusal) => refuse(refusal),
+        Err(refusal) => Answer::from(refusal),
     }
 }

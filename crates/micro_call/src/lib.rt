@@ -6,7 +6,7 @@ ghost use Rattle.std.specs.Prelude.{◌≡◌};
 ghost use Rattle.calls.specs.Lending.{found};
 ghost use Rattle.micro_call.specs.Runs.{micro_state, state_words, avm_run};
 
-use calls::{Answer, answer_of, refuse};
+use calls::{Answer, answer_of};
 use micro_meaning::{MicroState, Ran};
 
 // A state from the registers and the state words.
@@ -46,7 +46,7 @@ pub fn run(
         requests.now }
 {
     if let Err(refusal) = calls::test(memory.len(), registers.len()) {
-        return refuse(refusal);
+        return Answer::from(refusal);
     }
     let lent = micro_state(calls::registers_in(registers), state);
     let Ran {

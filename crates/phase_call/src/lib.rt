@@ -6,7 +6,7 @@ ghost use Rattle.std.specs.Prelude.{◌≡◌};
 ghost use Rattle.phase_call.specs.Phase.{phase_state, phase_words, latch_words, phase_found, avm_phase};
 
 use answers::{Microcycles, Steps};
-use calls::{Answer, answer_of, refuse};
+use calls::{Answer, answer_of};
 use phase_meaning::PhaseState;
 
 // A phase state from everything that a phase call is lent for it.
@@ -72,7 +72,7 @@ pub fn phase(
         latches.old mir.old phase.old request }
 {
     if let Err(refusal) = calls::test(memory.len(), registers.len()) {
-        return refuse(refusal);
+        return Answer::from(refusal);
     }
     let lent = phase_state(calls::registers_in(registers), state, latches, *mir, *phase);
     match phase_level::call::phase(program, memory, lent, request) {
@@ -84,6 +84,6 @@ pub fn phase(
             *phase = after.phase;
             answer_of(Ok(()), Microcycles::NONE, Steps::NONE)
         }
-        Err(refusal) => refuse(refusal),
+        Err(refusal) => Answer::from(refusal),
     }
 }

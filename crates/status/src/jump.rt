@@ -1,4 +1,5 @@
-// The jump decision, by the number of the instruction's destination field.
+// The jump decision, by the number of the instruction's destination field. It takes any number, which no
+// enum could: the source's definition has a closing case for all above 13.
 ghost use Rattle.std.specs.Prelude.{◌≡◌};
 ghost use Rattle.status.specs.Jump.{jump_cond};
 

@@ -4,7 +4,8 @@ ghost use Rattle.words.specs.Shifter.{shifter};
 
 use crate::predicates::negative;
 
-// SHFT (table 5.14, p. 120); every other code leaves the word as it is.
+// SHFT (table 5.14, p. 120). A code stays a number: `shift` takes any, and every other leaves the word as
+// it is.
 pub const LEFT: u32 = 0;
 
 pub const RIGHT: u32 = 1;

@@ -19,4 +19,4 @@ returns-in-Err-run c =
     let refused = sym c.run.ensures.value ∙ c.in-Err-run.is in
     let kept = c.run.ensures.memory_after ∙ ap (λ (called : MacroCalled). called.memory) (handed_back_refused mem c.macro_state-lent.result requests refused) in
     let again = sym (ap (λ (s : MacroState). macro_answer (run mem s requests)) lent) ∙ refused in
-    rw (c.refuse-in-Err-run.ensures, kept) (sym (run_refused mem args.registers.now args.state.now requests passed seven again))
+    rw (c.from-in-Err-run.ensures, kept) (sym (run_refused mem args.registers.now args.state.now requests passed seven again))
