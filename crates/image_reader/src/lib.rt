@@ -87,6 +87,7 @@ fn judge(words: usize, text: &[u8]) -> Result<(), Refusal>
     ensures { result ≡ judged words text.now }
 {
     let mut reading = Reading::Open(0);
+    // counted by hand and not by `enumerate`, since `end_of` needs the count too
     let mut lines: usize = 0;
     for line in (Lines { rest: text }) {
         lines += 1;

@@ -2,19 +2,23 @@
 use Prim.Native.Nat.{ℕ, ◌+◌, ◌-◌, ◌/◌, ◌%◌, ◌<◌, ◌≤◌}
 use native.Mathlib.Nat.{zero-add}
 use native.Mathlib.Omega.{arith}
-use mathlib.Core.Path.{◌≡◌, refl}
+use mathlib.Core.Path.{◌≡◌, refl, ◌∙◌}
 use mathlib.Core.List.{List, [], ◌∷◌}
 use lib.ListN.{length, get_or, drop, set, replicate, drop_of_length-le}
 use lib.Seq.{sets}
+use Rattle.std.specs.List.{fold}
 use Rattle.image_meaning.specs.Digits.{digit, hex, sum_of}
 use Rattle.image_meaning.specs.Writing.{checksum, data_bytes, data_line}
 
-module _ (bytes : List ℕ) (k : ℕ) (all : length bytes ≤ k) where
-  pub all_put : (line : List ℕ) (at : ℕ) → sets line at (hex (drop k bytes)) ≡ line
-  all_put line at = rw (drop_of_length-le bytes {i = k} all)
+pub all_put : (bytes : List ℕ) (k : ℕ) → length bytes ≤ k → (line : List ℕ) (at : ℕ) → sets line at (hex (drop k bytes)) ≡ line
+all_put bytes k all line at = rw (drop_of_length-le bytes {i = k} all)
 
-  pub all_summed : (sum : ℕ) → sum < 256 → (sum + sum_of (drop k bytes)) % 256 ≡ sum
-  all_summed sum h = rw (drop_of_length-le bytes {i = k} all) (omega arith)
+summed_from : (sum : ℕ) (bytes : List ℕ) → sum < 256 → fold (λ (s b : ℕ). (s + b) % 256) sum bytes ≡ (sum + sum_of bytes) % 256
+summed_from sum [] h = omega arith
+summed_from sum (b ∷ bytes) h = summed_from ((sum + b) % 256) bytes (omega arith) ∙ omega arith
+
+pub all_summed : (bytes : List ℕ) → fold (λ (s b : ℕ). (s + b) % 256) 0 bytes ≡ sum_of bytes % 256
+all_summed bytes = summed_from 0 bytes (omega arith) ∙ rw zero-add
 
 pub line_made : (address w x y z : ℕ) →
     set (set (sets (set (replicate 44 10) 0 58) 1 (hex (data_bytes address w x y z))) 41

@@ -1,13 +1,15 @@
 -- Lines as they are stored, one behind the other: the turns of the loop over the words, and the end record.
-use Prim.Native.Nat.{ℕ, suc, ◌+◌, ◌*◌, ◌<◌, ◌≤◌}
+use Prim.Native.Nat.{ℕ, zero, suc, ◌+◌, ◌*◌, ◌<◌, ◌≤◌}
 use native.Mathlib.Nat.{add-zero}
 use native.Mathlib.Numerals.{add-one}
 use native.Mathlib.Omega.{arith}
 use mathlib.Core.Path.{◌≡◌, refl, sym, ap, ◌∙◌}
 use mathlib.Core.List.{List, [], ◌∷◌, ◌++◌, append_assoc}
 use lib.ListN.{length, get_or, take, drop, set, drop_of_length-le}
-use lib.Seq.{sets, sets-eq, drop-cons, drop-drop}
+use lib.Seq.{sets, sets-eq, drop-drop}
 use borrow.Rule.Slice.PartMut.{put_mid}
+use Rattle.std.specs.Simd.{first_chunks}
+use Rattle.std.proofs.lemmas.List.{length-drop}
 use Rattle.image_meaning.specs.Digits.{digit}
 use Rattle.image_meaning.specs.Writing.{checksum, data_line, end_line, text_from}
 
@@ -28,48 +30,45 @@ copied room line at k e l fits =
 
 -- ---- the words, four by four
 
-module _ (memory : List ℕ) (i : ℕ) where
-  abbrev word : ℕ → ℕ
-  word k = get_or memory k 0
+pub four_at : (i n : ℕ) (words : List ℕ) → i < n → get_or (first_chunks 4 n words) i [] ≡ take 4 (drop (4 * i) words)
+four_at i zero words h = absurd (omega arith)
+four_at zero (suc n) words h = refl
+four_at (suc i) (suc n) words h =
+    four_at i n (drop 4 words) (omega arith)
+    ∙ ap (take 4) (drop-drop (4 * i) 4 words ∙ ap (λ (k : ℕ). drop k words) (omega arith))
 
-  abbrev four_line : List ℕ
-  four_line = data_line (16 * i) (word (4 * i)) (word (4 * i + 1)) (word (4 * i + 2)) (word (4 * i + 3))
+abbrev four_line : ℕ → List ℕ → List ℕ
+four_line i four = data_line (16 * i) (get_or four 0 0) (get_or four 1 0) (get_or four 2 0) (get_or four 3 0)
 
-  four_and_rest : 4 * i + 4 ≤ length memory →
-      drop (4 * i) memory ≡ word (4 * i) ∷ word (4 * i + 1) ∷ word (4 * i + 2) ∷ word (4 * i + 3) ∷ drop (4 * (i + 1)) memory
-  four_and_rest inside =
-      cut (4 * i) (omega arith)
-      ∙ ap (λ (t : List ℕ). word (4 * i) ∷ t) (cut (4 * i + 1) (omega arith))
-      ∙ ap (λ (t : List ℕ). word (4 * i) ∷ word (4 * i + 1) ∷ t) (cut (4 * i + 1 + 1) (omega arith))
-      ∙ ap (λ (t : List ℕ). word (4 * i) ∷ word (4 * i + 1) ∷ word (4 * i + 1 + 1) ∷ t) (cut (4 * i + 1 + 1 + 1) (omega arith))
-      ∙ rw (two, three, four)
-    where
-      cut : (k : ℕ) → k < length memory → drop k memory ≡ word k ∷ drop (k + 1) memory
-      cut k h = drop-cons memory k 0 h ∙ rw (add-one k)
+line_and_text : (i : ℕ) (words : List ℕ) → 4 ≤ length words →
+    text_from i words ≡ four_line i (take 4 words) ++ text_from (suc i) (drop 4 words)
+unfolding text_from
+line_and_text i [] h = absurd (omega arith)
+line_and_text i (w ∷ []) h = absurd (omega arith)
+line_and_text i (w ∷ x ∷ []) h = absurd (omega arith)
+line_and_text i (w ∷ x ∷ y ∷ []) h = absurd (omega arith)
+line_and_text i (w ∷ x ∷ y ∷ z ∷ words) h = refl
 
-      two : 4 * i + 1 + 1 ≡ 4 * i + 2
-      two = omega arith
+pub words_put : (memory room : List ℕ) (i : ℕ) → 4 * i + 4 ≤ length memory → {four line after : List ℕ} →
+    four ≡ take 4 (drop (4 * i) memory) → line ≡ four_line i four → after ≡ sets room (44 * i) line →
+    sets room (44 * i) (text_from i (drop (4 * i) memory)) ≡ sets after (44 * (i + 1)) (text_from (i + 1) (drop (4 * (i + 1)) memory))
+words_put memory room i inside {four} {line} {after} d e f =
+    ap (sets room (44 * i)) (line_and_text i (drop (4 * i) memory) long)
+    ∙ one_behind_other room (four_line i (take 4 (drop (4 * i) memory))) (text_from (suc i) (drop 4 (drop (4 * i) memory))) (44 * i)
+    ∙ ap (λ (r : List ℕ). sets r (44 * i + 44) (text_from (suc i) (drop 4 (drop (4 * i) memory)))) there
+    ∙ rw (drop-drop 4 (4 * i) memory, next_words, next_line, add-one i)
+  where
+    long : 4 ≤ length (drop (4 * i) memory)
+    long = omega (arith, length-drop (4 * i) memory)
 
-      three : 4 * i + 2 + 1 ≡ 4 * i + 3
-      three = omega arith
+    there : sets room (44 * i) (four_line i (take 4 (drop (4 * i) memory))) ≡ after
+    there = ap (λ (t : List ℕ). sets room (44 * i) (four_line i t)) (sym d) ∙ ap (sets room (44 * i)) (sym e) ∙ sym f
 
-      four : 4 * i + 3 + 1 ≡ 4 * (i + 1)
-      four = omega arith
+    next_words : 4 * i + 4 ≡ 4 * (i + 1)
+    next_words = omega arith
 
-  pub words_put : 4 * i + 4 ≤ length memory → (room : List ℕ) {line after : List ℕ} → line ≡ four_line →
-      after ≡ sets room (44 * i) line →
-      sets room (44 * i) (text_from i (drop (4 * i) memory)) ≡ sets after (44 * (i + 1)) (text_from (i + 1) (drop (4 * (i + 1)) memory))
-  unfolding text_from
-  words_put inside room {line} {after} e f =
-      ap (λ (ws : List ℕ). sets room (44 * i) (text_from i ws)) (four_and_rest inside)
-      ∙ one_behind_other room four_line (text_from (suc i) (drop (4 * (i + 1)) memory)) (44 * i)
-      ∙ ap (λ (r : List ℕ). sets r (44 * i + 44) (text_from (suc i) (drop (4 * (i + 1)) memory)))
-      (ap (λ (l : List ℕ). sets room (44 * i) l) (sym e) ∙ sym f)
-      ∙ ap (λ (n : ℕ). sets after n (text_from (suc i) (drop (4 * (i + 1)) memory))) next_line
-      ∙ rw (add-one i)
-    where
-      next_line : 44 * i + 44 ≡ 44 * (i + 1)
-      next_line = omega arith
+    next_line : 44 * i + 44 ≡ 44 * (i + 1)
+    next_line = omega arith
 
 pub end_put : (memory room : List ℕ) (i : ℕ) → length memory ≤ 4 * i → {after : List ℕ} → after ≡ sets room (44 * i) end_line →
     sets room (44 * i) (text_from i (drop (4 * i) memory)) ≡ after

@@ -1,9 +1,9 @@
 // The writer of images: 44 bytes for each four words, then the end record.
 #![tactic(auto)]
 
-ghost use Rattle.std.specs.Prelude.{◌≡◌, ◌%◌, ◌≤◌, [], ◌∷◌, length};
+ghost use Rattle.std.specs.Prelude.{◌≡◌, ◌%◌, ◌≤◌, [], ◌∷◌, length, slice_index};
 ghost use Rattle.std.proofs.lemmas.List.Edits.{sets};
-ghost use Rattle.image_meaning.specs.Digits.{digit, hex};
+ghost use Rattle.image_meaning.specs.Digits.{digit, hex, sum_of};
 ghost use Rattle.image_meaning.specs.Writing.{data_bytes, data_line, written_text, written_length, write_answer, room_after};
 
 use answers::Refusal;
@@ -14,7 +14,7 @@ fn digit(v: u8) -> u8
     ensures { result ≡ digit (v % 16) }
 {
     let v = v % 16;
-    if v < 10 { v + 48 } else { v + 55 }
+    if v < 10 { b'0' + v } else { b'A' - 10 + v }
 }
 
 // A byte's two digits.
@@ -25,9 +25,10 @@ fn digits(b: u8) -> [u8; 2]
 }
 
 // The bytes of a data record of four words, before the checksum.
-fn data_bytes(address: u16, w: u32, x: u32, y: u32, z: u32) -> [u8; 20]
-    ensures { result ≡ data_bytes address w x y z }
+fn data_bytes(address: u16, words: [u32; 4]) -> [u8; 20]
+    ensures { result ≡ data_bytes address (slice_index words 0) (slice_index words 1) (slice_index words 2) (slice_index words 3) }
 {
+    let [w, x, y, z] = words;
     let [high, low] = address.to_be_bytes();
     let [w3, w2, w1, w0] = w.to_be_bytes();
     let [x3, x2, x1, x0] = x.to_be_bytes();
@@ -38,21 +39,26 @@ fn data_bytes(address: u16, w: u32, x: u32, y: u32, z: u32) -> [u8; 20]
     ]
 }
 
-// The line of a data record of four words.
-fn data_line(address: u16, w: u32, x: u32, y: u32, z: u32) -> [u8; 44]
-    ensures { result ≡ data_line address w x y z }
+// The bytes of a record, summed up modulo 256.
+fn summed(bytes: &[u8]) -> u8
+    ensures { result ≡ sum_of bytes.now % 256 }
 {
-    let bytes = data_bytes(address, w, x, y, z);
+    bytes.iter().fold(0u8, |sum, b| sum.wrapping_add(*b))
+}
+
+// The line of a data record of four words.
+fn data_line(address: u16, words: [u32; 4]) -> [u8; 44]
+    ensures { result ≡ data_line address (slice_index words 0) (slice_index words 1) (slice_index words 2) (slice_index words 3) }
+{
+    let bytes = data_bytes(address, words);
     let mut line = [b'\n'; 44];
     line[0] = b':';
-    let mut sum: u8 = 0;
     for (k, b) in bytes.iter().enumerate() {
         let [high, low] = digits(*b);
         line[2 * k + 1] = high;
         line[2 * k + 2] = low;
-        sum = sum.wrapping_add(*b);
     }
-    let [high, low] = digits(0u8.wrapping_sub(sum));
+    let [high, low] = digits(0u8.wrapping_sub(summed(&bytes)));
     line[41] = high;
     line[42] = low;
     line
@@ -65,21 +71,14 @@ fn put_text(memory: &[u32], room: &mut [u8])
     requires fits { written_length (length memory.now) ≤ length room.old }
     ensures { room.new ≡ sets room.old 0 (written_text memory.now) }
 {
-    let fours = memory.len() / 4;
-    // by places: a proof knows nothing of what was written through `chunks_exact_mut`, and the words read
-    // stand at places that go with it
-    for i in 0..fours {
-        let at = 4 * i;
-        let line = data_line(
-            (16 * i) as u16,
-            memory[at],
-            memory[at + 1],
-            memory[at + 2],
-            memory[at + 3],
-        );
+    let (fours, _) = memory.as_chunks::<4>();
+    // the room by places: a proof knows nothing of what was written through `chunks_exact_mut`
+    for (i, four) in fours.iter().enumerate() {
+        let line = data_line((16 * i) as u16, *four);
         room[44 * i..44 * i + 44].copy_from_slice(&line);
     }
-    room[44 * fours..44 * fours + 12].copy_from_slice(b":00000001FF\n");
+    let end = 44 * fours.len();
+    room[end..end + 12].copy_from_slice(b":00000001FF\n");
 }
 
 // The whole call: the bytes written. The room is not touched before all is known to fit.
