@@ -25,9 +25,9 @@ fn either(first: bool, a: u8, b: u8) -> u8
 fn value(c: u8) -> u8
     ensures { result ≡ digit_value c }
 {
-    let lower = either((b'a' <= c) & (c <= b'f'), c.wrapping_sub(87), 16);
-    let upper = either((b'A' <= c) & (c <= b'F'), c.wrapping_sub(55), lower);
-    either((b'0' <= c) & (c <= b'9'), c.wrapping_sub(48), upper)
+    let lower = either((b'a' <= c) & (c <= b'f'), c.wrapping_sub(b'a' - 10), 16);
+    let upper = either((b'A' <= c) & (c <= b'F'), c.wrapping_sub(b'A' - 10), lower);
+    either((b'0' <= c) & (c <= b'9'), c.wrapping_sub(b'0'), upper)
 }
 
 // The byte of two digits at `at`; 256 where there is none. The definitions say 256 too, so that every line
@@ -63,16 +63,13 @@ pub fn word(text: &[u8], at: u32) -> u32
 }
 
 // The bytes of a record, from the count to the checksum, summed up modulo 256, where all are bytes.
+#[tactic(auto, using(crate::proofs::Totals::from_the_start, crate::proofs::Totals::no_byte, crate::proofs::Totals::one_added, crate::proofs::Totals::all_added))]
 fn sum_up(line: &[u8], count: u16) -> Option<u8>
     ensures { result ≡ total_of (bytes_of (count + 5) (drop 1 line.now)) }
 {
     let mut sum: u8 = 0;
     for k in 0..count as usize + 5 {
-        let b = byte(line, 1 + 2 * k);
-        if 255 < b {
-            return None;
-        }
-        sum = sum.wrapping_add(b as u8);
+        sum = sum.wrapping_add(u8::try_from(byte(line, 1 + 2 * k)).ok()?);
     }
     Some(sum)
 }
@@ -88,10 +85,7 @@ fn is_end(rest: &[u8]) -> bool
 fn ended(line: &[u8], from: usize) -> bool
     ensures { result ≡ is_end (drop from line.now) }
 {
-    match line.get(from..) {
-        Some(rest) => is_end(rest),
-        None => true,
-    }
+    line.get(from..).is_none_or(is_end)
 }
 
 // The count, the address and the type of a record.
