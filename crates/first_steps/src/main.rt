@@ -4,6 +4,7 @@
 #![tactic(auto)]
 
 use answers::Numbered;
+use macro_level::opcode;
 use macro_level::run::run;
 use macro_meaning::MacroState;
 use std::io;
@@ -13,7 +14,8 @@ fn main(rt: HostRuntime) -> io::Result<()> {
     lengths(&rt)
 }
 
-// An instruction word: opcode, destination, source A and the immediate.
+// An instruction word: opcode, destination, source A and the immediate. No From for Instruction, since no
+// call packs a word: only this program does.
 fn instruction(opcode: u32, dest: u32, srca: u32, imm: u32) -> u32 {
     opcode % 64 * 0x400_0000 + dest % 32 * 0x20_0000 + srca % 32 * 0x1_0000 + imm % 0x1_0000
 }
@@ -21,17 +23,17 @@ fn instruction(opcode: u32, dest: u32, srca: u32, imm: u32) -> u32 {
 // Each word by its address, which the jumps name.
 fn program() -> [u32; 16] {
     let mut memory = [0u32; 16];
-    memory[0] = instruction(24, 8, 0, 7); // ADDI R8, R0, 7
-    memory[1] = instruction(26, 9, 8, 7); // SUBI R9, R8, 7
-    memory[2] = instruction(0, 6, 0, 4); // JMP if z to R0 + 4
-    memory[4] = instruction(15, 8, 0, 14); // STI R8 to R0 + 14
-    memory[5] = instruction(14, 10, 0, 14); // LDI R10 from R0 + 14
-    memory[6] = instruction(1, 20, 0, 9); // CALL R0 + 9, stack R20
-    memory[7] = instruction(23, 12, 8, 0); // BNOT R12, R8
-    memory[8] = instruction(5, 11, 0, 0); // PPSW R11
-    memory[9] = instruction(11, 20, 0, 0); // RTN, stack R20
-    memory[10] = instruction(4, 11, 0, 0); // GPSW R11
-    memory[11] = instruction(3, 0, 0, 0); // RTI
+    memory[0] = instruction(opcode::ADDI, 8, 0, 7); // ADDI R8, R0, 7
+    memory[1] = instruction(opcode::SUBI, 9, 8, 7); // SUBI R9, R8, 7
+    memory[2] = instruction(opcode::JMP, 6, 0, 4); // JMP if z to R0 + 4
+    memory[4] = instruction(opcode::STI, 8, 0, 14); // STI R8 to R0 + 14
+    memory[5] = instruction(opcode::LDI, 10, 0, 14); // LDI R10 from R0 + 14
+    memory[6] = instruction(opcode::CALL, 20, 0, 9); // CALL R0 + 9, stack R20
+    memory[7] = instruction(opcode::BNOT, 12, 8, 0); // BNOT R12, R8
+    memory[8] = instruction(opcode::PPSW, 11, 0, 0); // PPSW R11
+    memory[9] = instruction(opcode::RTN, 20, 0, 0); // RTN, stack R20
+    memory[10] = instruction(opcode::GPSW, 11, 0, 0); // GPSW R11
+    memory[11] = instruction(opcode::RTI, 0, 0, 0); // RTI
     memory
 }
 

@@ -5,6 +5,7 @@ ghost use Rattle.alu.specs.Alu.{alu};
 ghost use Rattle.macro_meaning.specs.Effects.{add, dec, goes, put, mode};
 ghost use Rattle.macro_meaning.specs.Instructions.{jmp, call, interrupted, rti, rtn, gpsw, ppsw, ld, st, shift, arithmetic, logic, noop, computation, effect};
 
+use crate::opcode;
 use alu::{AluOutput, Flags, code};
 use blocks::memory::{Store, load};
 use macro_meaning::{Effect, Operands};
@@ -225,21 +226,21 @@ fn computation(key: u32, o: Operands) -> Effect
 {
     let Operands { b, imm, .. } = o;
     match key {
-        16 => arithmetic(o, code::ADD, b),
-        17 => arithmetic(o, code::ADD_WITH_CARRY, b),
-        18 => arithmetic(o, code::SUBTRACT, b),
-        19 => arithmetic(o, code::SUBTRACT_WITH_CARRY, b),
-        20 => logic(o, code::AND, b),
-        21 => logic(o, code::OR, b),
-        22 => logic(o, code::XOR, b),
-        23 => logic(o, code::NOT, b),
-        24 => arithmetic(o, code::ADD, imm),
-        25 => arithmetic(o, code::ADD_WITH_CARRY, imm),
-        26 => arithmetic(o, code::SUBTRACT, imm),
-        27 => arithmetic(o, code::SUBTRACT_WITH_CARRY, imm),
-        28 => logic(o, code::AND, imm),
-        29 => logic(o, code::OR, imm),
-        30 => logic(o, code::XOR, imm),
+        opcode::ADD => arithmetic(o, code::ADD, b),
+        opcode::ADDC => arithmetic(o, code::ADD_WITH_CARRY, b),
+        opcode::SUB => arithmetic(o, code::SUBTRACT, b),
+        opcode::SUBC => arithmetic(o, code::SUBTRACT_WITH_CARRY, b),
+        opcode::BAND => logic(o, code::AND, b),
+        opcode::BOR => logic(o, code::OR, b),
+        opcode::BXOR => logic(o, code::XOR, b),
+        opcode::BNOT => logic(o, code::NOT, b),
+        opcode::ADDI => arithmetic(o, code::ADD, imm),
+        opcode::ADDCI => arithmetic(o, code::ADD_WITH_CARRY, imm),
+        opcode::SUBI => arithmetic(o, code::SUBTRACT, imm),
+        opcode::SUBCI => arithmetic(o, code::SUBTRACT_WITH_CARRY, imm),
+        opcode::BANDI => logic(o, code::AND, imm),
+        opcode::BORI => logic(o, code::OR, imm),
+        opcode::BXORI => logic(o, code::XOR, imm),
         _ => noop(o),
     }
 }
@@ -258,20 +259,20 @@ pub fn perform(key: u32, memory: &[u32], o: Operands) -> Effect
         ..
     } = o;
     match key {
-        0 => jmp(o),
-        1 => call(o),
-        2 => interrupted(o, 255 & imm, add(pc, 1)),
-        3 => rti(memory, o),
-        4 => gpsw(o),
-        5 => ppsw(o),
-        6 => ld(memory, o, b),
-        7 => st(o, b),
-        8 => shift(o, shifter::LEFT),
-        9 => shift(o, shifter::RIGHT),
-        10 => shift(o, shifter::ARITHMETIC_RIGHT),
-        11 => rtn(memory, o),
-        14 => ld(memory, o, imm),
-        15 => st(o, imm),
+        opcode::JMP => jmp(o),
+        opcode::CALL => call(o),
+        opcode::INT => interrupted(o, 255 & imm, add(pc, 1)),
+        opcode::RTI => rti(memory, o),
+        opcode::GPSW => gpsw(o),
+        opcode::PPSW => ppsw(o),
+        opcode::LD => ld(memory, o, b),
+        opcode::ST => st(o, b),
+        opcode::LSL => shift(o, shifter::LEFT),
+        opcode::LSR => shift(o, shifter::RIGHT),
+        opcode::ASR => shift(o, shifter::ARITHMETIC_RIGHT),
+        opcode::RTN => rtn(memory, o),
+        opcode::LDI => ld(memory, o, imm),
+        opcode::STI => st(o, imm),
         INTERRUPT_STEP => interrupted(o, 255 & ivec, pc),
         _ => computation(key, o),
     }

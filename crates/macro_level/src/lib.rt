@@ -3,5 +3,6 @@
 #![tactic(auto)]
 
 mod instructions;
+pub mod opcode;
 pub mod run;
 pub mod step;

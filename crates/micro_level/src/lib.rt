@@ -11,6 +11,9 @@ use micro_meaning::{MicroAnswer, MicroMachine, MicroState, Ran};
 mod microcycle;
 mod run_loop;
 
+// The largest request byte: interrupt and reset.
+const MOST_REQUEST: u8 = 3;
+
 // What a run is lent, lowest number first.
 #[tactic(auto, unfolding(micro_meaning::specs::Run::micro_test), using(answers::proofs::FirstPlace::found, answers::proofs::FirstPlace::not_found))]
 fn tested(words: usize, program: &[u64], s: MicroState, requests: &[u8]) -> Result<(), Refusal>
@@ -20,7 +23,7 @@ fn tested(words: usize, program: &[u64], s: MicroState, requests: &[u8]) -> Resu
     if program.len() <= s.mpc as usize {
         return Err(Refusal::Outside);
     }
-    match answers::tests::first_above(3, requests) {
+    match answers::tests::first_above(MOST_REQUEST, requests) {
         Some(place) => Err(Refusal::Request(place)),
         None => Ok(()),
     }
