@@ -25,7 +25,8 @@ refused_for_its_types() { # CRATE FILE OLD NEW [OLD NEW]..
 }
 
 one "a run that exchanges its clocks" refused_for_its_types micro_level src/run_loop.rt \
-    'microcycles: completed,' 'microcycles: returned,' 'steps: returned,' 'steps: completed,'
+    'microcycles: Microcycles { count: at as u64 },' 'microcycles: steps,' \
+    '                steps,' '                steps: Microcycles { count: at as u64 },'
 one "a C call that exchanges them" refused_for_its_types micro_call src/lib.rt \
     'answer_of(end, microcycles, steps)' 'answer_of(end, steps, microcycles)'
 finish
