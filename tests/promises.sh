@@ -1,7 +1,7 @@
 # docs/PROMISES.md can't go stale: each `crate/path#name` and each .edit in it exists. What a must-fail edit tries stands in the edit, in
 # lines '# of: crate/path#name': each edit has one, and what it names exists. The public contracts are the functions that docs/DECISIONS.md
 # lists under H32: every exported function is among them, and each is tried by two edits or more. A public function, listed or not, has an
-# `ensures` and no `requires`, and none but the board's two calls takes a reference to a struct.
+# `ensures` and no `requires`, and none but the board's two calls takes a reference to a struct. A conversion says what it gives.
 shopt -s extglob
 page=docs/PROMISES.md decisions=docs/DECISIONS.md
 passed=0 failed=0
@@ -56,6 +56,15 @@ while IFS=: read -r file number line; do
         fail "$file: $name takes a reference to a struct"
     fi
 done < <(grep -rnE '^[[:space:]]*pub (extern "C" )?fn ' crates/*/src)
+
+# the conversions: what an `impl From` has before its function says what it gives
+while IFS=: read -r file number line; do
+    if tail -n "+$number" "$file" | sed -n '1,/^ *fn from(/p' | grep -q '^ *ghost from_gives = '; then
+        passed=$((passed + 1))
+    else
+        fail "$file: '$line' does not say what it gives"
+    fi
+done < <(grep -rnE '^[[:space:]]*impl From<' crates/*/src)
 
 # the public contracts: an entry of the decisions runs up to the next one or to a heading
 contracts=$(awk '/^(- \*\*|#)/ { on = /^- \*\*H32[^0-9]/ } on' "$decisions" |

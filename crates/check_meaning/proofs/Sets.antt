@@ -13,12 +13,13 @@ use lib.Pow.{pow_pos, pow-lt}
 use borrow.Author.Tests.{eqb-true, eqb-false}
 use Rattle.std.specs.Prelude.{Some, None}
 use Rattle.std.specs.Int.{w64, bit_at}
+use Rattle.std.proofs.lemmas.Nat.{leading_length}
 use Rattle.std.proofs.lemmas.Nat.Bits.{bit_at-zero, bit_at-suc, bit_at_above, bit_at_mask_inside, bit_at_mask_above, bit_at_mask_below, bit_at-trailing_zeros}
 use Rattle.words.specs.Words.{bit}
 use Rattle.words.proofs.BitByBit.{digit, bit_of_or, bit_of_power}
 use Rattle.words.proofs.Cases.{lt_or_le}
 use Rattle.check_meaning.specs.declared.AddressSet.{AddressSet}
-use Rattle.check_meaning.specs.Survey.{of_bits, nowhere, has, is_empty, alone, union, without_fetch, lowest, opcode_words}
+use Rattle.check_meaning.specs.Survey.{of_bits, nowhere, has, is_empty, alone, union, without_fetch, lowest, length_of, opcode_words}
 
 -- ---- by digits
 bit_is : (n place : ℕ) {d : ℕ} → bit_at n place ≡ d → bit n place ≡ eqb d 1
@@ -35,6 +36,15 @@ not_both n place e t = absurd (omega (arith, e, set_bit n place t))
 -- no address of 64 or more is in a set of 64 bits
 pub beyond : (bits place : ℕ) → bits < 2 ^ 64 → 64 ≤ place → bit bits place ≡ false
 beyond bits place h l = bit_is bits place (bit_at_above bits 64 place h l)
+
+-- ---- where a set ends
+pub has_its_length : (bits : ℕ) → bits < 2 ^ 64 → bits < 2 ^ length_of bits
+has_its_length bits h =
+    let top = leading_length 64 bits h in let same : top.0 ≡ length_of bits = omega (arith, top.1) in rw same at top.2
+
+-- no address from the end on is in a set
+pub none_beyond : (x : AddressSet) (a : ℕ) → x.bits < 2 ^ a → has x a ≡ false
+none_beyond x a h = bit_is x.bits a (bit_at_above x.bits a a h (omega arith))
 
 -- ---- what is in a set
 pub has_none : (a : ℕ) → has nowhere a ≡ false

@@ -3,7 +3,7 @@
 -- what is found is what specs/Meaning.antt asks for. Assumes nothing.
 use Rattle.std.specs.Prelude.{ℕ, zero, suc, ◌+◌, ◌-◌, ◌*◌, ◌/◌, ◌%◌, ◌^◌, Bool, true, false, cond, ◌||◌, ◌&&◌, List, [], ◌∷◌, eqb, leb, length, Option, Some, None, Ok, Err}
 use Rattle.std.specs.Int.Bits.{bit_or}
-use Rattle.std.specs.Int.Count.{count_trailing_zeros}
+use Rattle.std.specs.Int.Count.{count_leading_zeros, count_trailing_zeros}
 use Rattle.std.specs.List.{position, enumerate_from}
 use mir.Val.{bool_byte as num}
 use Rattle.words.specs.Words.{bit}
@@ -43,6 +43,14 @@ without_fetch set = of_bits (set.bits / 2 * 2)
 
 abbrev pub lowest : AddressSet → Option ℕ
 lowest set = cond (is_empty set) None (Some (count_trailing_zeros 64 set.bits))
+
+-- bits of a number up to the highest that is set
+abbrev pub length_of : ℕ → ℕ
+length_of bits = 64 - count_leading_zeros 64 bits
+
+-- one above the highest member
+abbrev pub end : AddressSet → ℕ
+end set = length_of set.bits
 
 -- ---- the next addresses of a word
 -- the next address where all that the sequencer reads outside the microword is clear, or all is set; but for `jop`, no other is possible

@@ -2,9 +2,9 @@
 // what is found is that, and check_walks finds it.
 #![tactic(auto)]
 
-ghost use Rattle.std.specs.Prelude.{◌≡◌};
+ghost use Rattle.std.specs.Prelude.{◌≡◌, ◌<◌, ◌^◌};
 ghost use Rattle.words.specs.Words.{bit};
-ghost use Rattle.check_meaning.specs.Survey.{alone, union, has, is_empty, without_fetch, lowest};
+ghost use Rattle.check_meaning.specs.Survey.{alone, union, has, is_empty, without_fetch, lowest, length_of, end};
 
 use answers::Microcycles;
 use control_store::MOST_MICROWORDS;
@@ -22,6 +22,15 @@ fn bit(bits: u64, place: usize) -> bool
     ensures { result ≡ bit bits place }
 {
     place < MOST_MICROWORDS && (bits >> place) % 2 == 1
+}
+
+// How many bits a number has, up to its highest that is set; it stands apart for the same reason.
+#[tactic(auto, using(crate::proofs::Sets::has_its_length))]
+fn length(bits: u64) -> usize
+    ensures value { result ≡ length_of bits }
+    ensures long_enough { bits < 2 ^ result }
+{
+    MOST_MICROWORDS - bits.leading_zeros() as usize
 }
 
 impl AddressSet {
@@ -75,6 +84,14 @@ impl AddressSet {
             return None;
         }
         Some(self.bits.trailing_zeros() as usize)
+    }
+
+    // One above the highest address of the set; 0 where it has none.
+    pub fn end(self) -> usize
+        ensures value { result ≡ end self }
+        ensures above_all { self.bits < 2 ^ result }
+    {
+        length(self.bits)
     }
 }
 

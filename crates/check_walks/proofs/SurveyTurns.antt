@@ -1,22 +1,54 @@
 -- The survey's definitions where a loop stands: one turn more, and the end.
-use Prim.Native.Nat.{ℕ, zero, suc, ◌+◌, ◌-◌, ◌<◌, ◌≤◌}
+use Prim.Native.Nat.{ℕ, zero, suc, ◌+◌, ◌-◌, ◌^◌, ◌<◌, ◌≤◌, min}
 use native.Mathlib.Numerals.{add-one}
 use native.Mathlib.Omega.{arith}
-use mathlib.Core.Path.{◌≡◌, refl}
+use mathlib.Core.Path.{◌≡◌, refl, sym}
 use mathlib.Core.Bool.{true, false}
-use mathlib.Core.List.{List}
-use lib.ListN.{length, get_or, drop}
+use mathlib.Core.List.{List, [], ◌∷◌}
+use lib.ListN.{length, get_or, take, drop}
 use lib.Seq.{drop-cons}
+use lib.Pow.{pow_mono}
+use mathlib.Core.Logic.{⊎_elim}
+use Rattle.std.proofs.lemmas.Bool.{cases_lt}
+use Rattle.std.proofs.lemmas.List.{take_all}
 use Rattle.check_meaning.specs.declared.AddressSet.{AddressSet}
 use Rattle.check_meaning.specs.declared.Survey.{Survey}
 use Rattle.check_meaning.specs.Meaning.{microcycles}
-use Rattle.check_meaning.specs.Survey.{is_empty, joined, spread, advance, survey, rounds}
+use Rattle.check_meaning.proofs.Sets.{none_beyond}
+use Rattle.check_meaning.specs.Survey.{nowhere, is_empty, joined, spread, advance, survey, rounds}
 
 -- ---- the next addresses of a set
 pub spread_on : (program : List ℕ) (standing found : AddressSet) (at : ℕ) → at < length program
     → spread at (drop at program) standing found ≡ spread (at + 1) (drop (at + 1) program) standing (joined found standing at (get_or program at 0))
 unfolding spread
 spread_on program standing found at h = rw (drop-cons program at 0 h, add-one at) refl
+
+none_more : (standing found : AddressSet) (at : ℕ) (words : List ℕ) → standing.bits < 2 ^ at → spread at words standing found ≡ found
+unfolding spread
+none_more standing found at [] h = refl
+none_more standing found at (word ∷ words) h =
+    let more : 2 ^ at ≤ 2 ^ suc at = pow_mono (omega arith) in
+    rw (none_beyond standing at h) (none_more standing found (suc at) words (omega (arith, h, more)))
+
+up_to : (standing found : AddressSet) (end at count : ℕ) (words : List ℕ) → standing.bits < 2 ^ end → end ≡ at + count
+    → spread at (take count words) standing found ≡ spread at words standing found
+unfolding spread
+up_to standing found end at zero words h e =
+    let here : end ≡ at = omega (arith, e) in sym (none_more standing found at words (rw here at h))
+up_to standing found end at (suc count) [] h e = refl
+up_to standing found end at (suc count) (word ∷ words) h e =
+    up_to standing (joined found standing at word) end (suc at) count words h (omega (arith, e))
+
+-- the words below the end of a set are all that count
+pub spread_within : (program : List ℕ) (standing : AddressSet) (end : ℕ) → standing.bits < 2 ^ end
+    → spread 0 (take (min (length program) end) program) standing nowhere ≡ spread 0 program standing nowhere
+spread_within program standing end h = ⊎_elim shorter longer (cases_lt end (length program))
+  where
+    shorter : end < length program → spread 0 (take (min (length program) end) program) standing nowhere ≡ spread 0 program standing nowhere
+    shorter l = let least : min (length program) end ≡ end = omega arith in rw least (up_to standing nowhere end 0 end program h (omega arith))
+
+    longer : length program ≤ end → spread 0 (take (min (length program) end) program) standing nowhere ≡ spread 0 program standing nowhere
+    longer l = let least : min (length program) end ≡ length program = omega arith in rw (least, take_all (length program) program (omega arith)) refl
 
 -- ---- all walks, microcycle by microcycle: what is left where the next is the microcycle `count`
 unfoldable pub from_microcycle : List ℕ → Survey → ℕ → Survey

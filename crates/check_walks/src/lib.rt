@@ -66,7 +66,7 @@ fn spread(program: &[u64], standing: AddressSet) -> AddressSet
 }
 
 // One microcycle of all walks, the last of those done.
-#[tactic(auto, unfolding(check_meaning::specs::Survey::advance))]
+#[tactic(auto, unfolding(check_meaning::specs::Survey::advance), using(crate::proofs::SurveyTurns::spread_within))]
 fn advance(program: &[u64], done: Microcycles, s: Survey) -> Survey
     ensures { result ≡ advance program.now done s }
 {
@@ -75,7 +75,9 @@ fn advance(program: &[u64], done: Microcycles, s: Survey) -> Survey
         seen,
         longest,
     } = s;
-    let next = spread(program, standing);
+    // behind the highest word of the set there is none to look at
+    let words = &program[..program.len().min(standing.end())];
+    let next = spread(words, standing);
     Survey {
         standing: next.without_fetch(),
         seen: seen.with(standing),

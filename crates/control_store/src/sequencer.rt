@@ -33,8 +33,9 @@ pub fn next_address(
     match cond {
         code::JMP => addr,
         code::JOP => add_bt6(opcode, 4),
-        code::JINT if request & ie => addr,
-        code::JSM if sm => addr,
+        // choices and no guards: a guard is a branch more in each microcycle, and runs are slower with it
+        code::JINT => if request & ie { addr } else { stepped },
+        code::JSM => if sm { addr } else { stepped },
         _ => stepped,
     }
 }

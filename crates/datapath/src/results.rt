@@ -1,7 +1,7 @@
 // Where the result goes: the registers, the system registers and memory after a microcycle.
 ghost use Rattle.std.specs.Prelude.{◌≡◌};
 ghost use Rattle.datapath.specs.Results.{target_register, written_register};
-ghost use Rattle.datapath.specs.Results.{new_reg, new_pc, new_mbr, new_system, new_store};
+ghost use Rattle.datapath.specs.Results.{new_reg, new_pc, new_mar, new_mbr, new_system, new_store};
 
 use blocks::choice::choose;
 use blocks::memory::Store;
@@ -51,16 +51,28 @@ pub struct SystemRegisters {
     pub mbr: u32,
 }
 
-// PC, always or if the jump decision holds, by the old flags.
+// PC, always or if the jump decision holds, by the old flags. Two choices and no match with a guard, which
+// is a branch more in each microcycle: runs are slower with it.
 #[tactic(auto, unfolding(crate::specs::Results::new_pc))]
 fn pc(trgt: u32, dest: u32, psw: Psw, res: u32, pc: u32) -> u32
     ensures { result ≡ new_pc trgt dest psw res pc }
 {
-    match trgt {
-        code::TO_PC => res,
-        code::TO_PCJ if status::jump::decide(dest, psw) => res,
-        _ => pc,
+    if trgt == code::TO_PCJ {
+        return choose(status::jump::decide(dest, psw), res, pc);
     }
+    choose(trgt == code::TO_PC, res, pc)
+}
+
+// MAR: a result, where it doesn't come from PC. It returns early: with one test for both bits the compiler
+// keeps IR and MAR in a vector register, and runs are slower.
+#[tactic(auto, unfolding(crate::specs::Results::new_mar))]
+fn mar(word: Microword, res: u32, mar: u32) -> u32
+    ensures { result ≡ new_mar word res mar }
+{
+    if word.pmux {
+        return mar;
+    }
+    choose(word.mar, res, mar)
 }
 
 // MBR: a word read goes before a result.
@@ -97,7 +109,6 @@ pub fn system(
     ensures { result ≡ new_system memory.now word dest psw res old }
 {
     let trgt = word.trgt;
-    let to_mar = !word.pmux & word.mar;
     let SystemRegisters {
         pc: old_pc,
         ir: old_ir,
@@ -107,7 +118,7 @@ pub fn system(
     SystemRegisters {
         pc: pc(trgt, dest, psw, res, old_pc),
         ir: choose(trgt == code::TO_IR, res, old_ir),
-        mar: choose(to_mar, res, old_mar),
+        mar: mar(word, res, old_mar),
         mbr: mbr(memory, word, old_mar, res, old_mbr),
     }
 }

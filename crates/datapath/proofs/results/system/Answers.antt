@@ -7,7 +7,7 @@ unfolding new_ir new_mar
 returns c =
     rw (
       c.mbr.ensures,
-      c.choose-2.ensures,
+      c.mar.ensures,
       c.choose.ensures,
       c.pc.ensures,
     )
