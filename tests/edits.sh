@@ -43,28 +43,26 @@ first_of_all() { # EDIT CRATE
         awk '!found && /: error|^note: .*it is not proved/ { found = 1; print; next } found { if (/^ /) print; else exit }'
 }
 
-# The function of a place in the crate. The place is a line of the function's body, or in column 1 the line at which the function or its
-# attribute begins.
+# The function of a place in the crate: a line of the function's body, or the line at which the function or its attribute begins.
 function_at() { # CRATE-FOLDER PLACE, as src/lib.rt:55:1
     local file line column names='s/.*fn \([a-z_0-9]*\)[(<].*/\1/p'
     IFS=: read -r file line column <<<"$2"
-    if [ "$column" = 1 ]; then
+    if sed -n "${line}p" "$1/$file" | grep -q '^ *#\['; then
         tail -n "+$line" "$1/$file" | sed -n "$names" | head -n 1
     else
         head -n "$line" "$1/$file" | sed -n "$names" | tail -n 1
     fi
 }
 
-# Whether there is a folder with the proof of a function that the edit names, or of that in which rt found a goal open.
-has_proof_file() { # EDIT CRATE PLACE
-    local function
-    for function in $(sed -n "s/^# of: $2\/.*#//p" "$1") $(function_at "crates/$2" "$3"); do
+# Whether there is a folder with the proof of a function that the edit names, or of that in which the note has found a goal open.
+has_proof_file() { # EDIT CRATE NOTE
+    local function open=
+    [[ ! $3 =~ ^'note: '([^: ]+:[0-9]+:[0-9]+)': ' ]] || open=$(function_at "crates/$2" "${BASH_REMATCH[1]}")
+    for function in $(sed -n "s/^# of: $2\/.*#//p" "$1") $open; do
         [ -z "$(find "crates/$2/proofs" -type d -name "$function" 2>/dev/null)" ] || return 0
     done
     return 1
 }
-
-open_goal='^note: ([^: ]+:[0-9]+:[0-9]+): it is not proved'
 
 rt must-fail >"$work/tried" 2>&1
 for edit in crates/*/must-fail/*.edit; do
@@ -72,8 +70,8 @@ for edit in crates/*/must-fail/*.edit; do
     name="rt: must-fail $crate/$(basename "$edit"): "
     said=$(grep -F -m 1 -- "$name" "$work/tried") said=${said#"$name"}
     first=${said#refused, as it must be: }
-    if [[ $first =~ $open_goal && $first != *"(\`returns\`)"* && $first != *"; the facts known "* ]] &&
-        has_proof_file "$edit" "$crate" "${BASH_REMATCH[1]}"; then
+    if [[ $first == "note: "*"it is not proved"* && $first != *"(\`returns\`)"* && $first != *"; the facts known "* ]] &&
+        has_proof_file "$edit" "$crate" "$first"; then
         first=$(first_of_all "$edit" "$crate")
     fi
     if [ "$first" = "$said" ] || [ -z "$first" ]; then
